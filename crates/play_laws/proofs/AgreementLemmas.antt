@@ -15,17 +15,21 @@ use Rattle.frame_view.specs.FrameViews.{plain_frame}
 use Rattle.picture_plan.specs.Pictures.{AreDraws}
 use Rattle.run_status.specs.Laws.{IsReadDecided}
 use Rattle.play_command.proofs.RunLemmas.{reading_one}
+use Rattle.play_command.specs.PlayRuns.{play_head_bytes}
 use Rattle.play_command.specs.SelftestRuns.{IsSelftestRead, IsSelftestReport, IsSelftestText, image_count, selftest_play}
 use Rattle.play_laws.proofs.FormatLemmas.{formatted, image_formatted}
 use Rattle.play_laws.specs.Agreement.{PlayAlike}
 use Rattle.play_model.proofs.TimeLaws.{settled_image}
-use Rattle.play_model.specs.Images.{IsImageIn, IsSettledImage}
+use Rattle.play_model.specs.Heads.{head_in}
+use Rattle.play_model.specs.Images.{IsImageIn, IsSettledImage, play_form}
 use Rattle.play_model.specs.Outputs.{IsShownPlay}
 use Rattle.play_model.specs.Plays.{IsPlayable, PlayView}
 use Rattle.play_report.specs.Digests.{digest_after}
 use Rattle.play_report.specs.Reports.{summary_text}
 use Rattle.play_shares.specs.Instants.{frame_count, instant_count, play_instant}
-use Rattle.run_words.specs.declared.job.FrameFormat.{FrameFormat}
+use Rattle.run_words.specs.Forms.{image_form}
+use Rattle.run_words.specs.declared.job.ImageForm.{ImageForm}
+use Rattle.run_words.specs.declared.job.PlayFormat.{PlayFormat}
 use Rattle.run_words.specs.declared.job.Mode.TheVariants.{Settled}
 use Rattle.run_status.specs.declared.status.Status.{Status}
 use Rattle.ass_events.specs.ScriptEvents.{line_events}
@@ -33,13 +37,13 @@ use Rattle.ass_events.specs.ScriptEvents.{line_events}
 abbrev pub Law : Type 0
 Law = (script : ScriptValue) (fonts : List FontValue) → IsScript script → HaveOneListOfDraws script fonts
 
--- The bytes are the image of what all events of a script show, in a format.
-abbrev pub IsAt : ScriptValue → List FontValue → Size → FrameFormat → ℤ → ℕ → List ℕ → Type 0
+-- The bytes are the image of what all events of a script show, in a form.
+abbrev pub IsAt : ScriptValue → List FontValue → Size → ImageForm → ℤ → ℕ → List ℕ → Type 0
 IsAt script fonts size format t q bytes =
     (draws : List Draw) × AreDraws script fonts (line_events script) t (plain_frame size) draws
     × IsImageIn format fonts size draws t (q * (length (line_events script) + 1) + length (line_events script)) bytes
 
-pub one_image : Law → (script : ScriptValue) (fonts : List FontValue) (size : Size) (format : FrameFormat) (t : ℤ) (q : ℕ) (x y : List ℕ) → IsScript script
+pub one_image : Law → (script : ScriptValue) (fonts : List FontValue) (size : Size) (format : ImageForm) (t : ℤ) (q : ℕ) (x y : List ℕ) → IsScript script
     → IsAt script fonts size format t q x → IsAt script fonts size format t q y → x ≡ y
 one_image law script fonts size format t q x y sound (a, are, is) (b, too, also) =
     let n : ℕ = q * (length (line_events script) + 1) + length (line_events script) in
@@ -47,7 +51,7 @@ one_image law script fonts size format t q x y sound (a, are, is) (b, too, also)
     ∙ ap (λ (draws : List Draw). formatted fonts size draws t n format) (law script fonts sound (line_events script) t (plain_frame size) a b are too)
     ∙ sym (image_formatted fonts size b t n format y also)
 
-pub at_place : (play : PlayView) (q i : ℕ) (bytes : List ℕ) → IsSettledImage play q i bytes → IsAt play.script play.fonts play.job.size play.job.format (play_instant play.job i) q bytes
+pub at_place : (play : PlayView) (q i : ℕ) (bytes : List ℕ) → IsSettledImage play q i bytes → IsAt play.script play.fonts play.job.size (play_form play) (play_instant play.job i) q bytes
 at_place play q i bytes h = (h.draws, h.are_draws, h.value)
 
 module _ (one other : PlayView) (alike : PlayAlike one other) where
@@ -60,14 +64,20 @@ module _ (one other : PlayView) (alike : PlayAlike one other) where
   same_instant : (i : ℕ) → play_instant one.job i ≡ play_instant other.job i
   same_instant i = rw alike.jobs.instants refl
 
-  pub moved : (q i : ℕ) (bytes : List ℕ) → IsAt other.script other.fonts other.job.size other.job.format (play_instant other.job i) q bytes
-      → IsAt one.script one.fonts one.job.size one.job.format (play_instant one.job i) q bytes
+  same_form : play_form one ≡ play_form other
+  same_form = ap (λ (f : PlayFormat). image_form f one.script.header.matrix) alike.jobs.format ∙ ap (λ (s : ScriptValue). image_form other.job.format s.header.matrix) alike.script
+
+  pub same_head : play_head_bytes one ≡ play_head_bytes other
+  same_head = λ i. flat_map (λ piece. piece) (head_in (same_form i) (alike.jobs.size i) ((alike.jobs.instants i).rate))
+
+  pub moved : (q i : ℕ) (bytes : List ℕ) → IsAt other.script other.fonts other.job.size (play_form other) (play_instant other.job i) q bytes
+      → IsAt one.script one.fonts one.job.size (play_form one) (play_instant one.job i) q bytes
   moved q i bytes h =
-      subst (λ (s : ScriptValue). IsAt s one.fonts one.job.size one.job.format (play_instant one.job i) q bytes) (sym alike.script)
-      (subst (λ (f : List FontValue). IsAt other.script f one.job.size one.job.format (play_instant one.job i) q bytes) (sym alike.fonts)
-      (subst (λ (z : Size). IsAt other.script other.fonts z one.job.format (play_instant one.job i) q bytes) (sym alike.jobs.size)
-      (subst (λ (f : FrameFormat). IsAt other.script other.fonts other.job.size f (play_instant one.job i) q bytes) (sym alike.jobs.format)
-      (subst (λ (t : ℤ). IsAt other.script other.fonts other.job.size other.job.format t q bytes) (sym (same_instant i)) h))))
+      subst (λ (s : ScriptValue). IsAt s one.fonts one.job.size (play_form one) (play_instant one.job i) q bytes) (sym alike.script)
+      (subst (λ (f : List FontValue). IsAt other.script f one.job.size (play_form one) (play_instant one.job i) q bytes) (sym alike.fonts)
+      (subst (λ (z : Size). IsAt other.script other.fonts z (play_form one) (play_instant one.job i) q bytes) (sym alike.jobs.size)
+      (subst (λ (f : ImageForm). IsAt other.script other.fonts other.job.size f (play_instant one.job i) q bytes) (sym same_form)
+      (subst (λ (t : ℤ). IsAt other.script other.fonts other.job.size (play_form other) t q bytes) (sym (same_instant i)) h))))
 
 pub positive : (t n k : ℕ) → k < t * n → 0 < n
 positive t zero k lt = absurd (omega (arith, lt))
@@ -85,7 +95,7 @@ module _ (law : Law) (one other : PlayView) (times more : List (List Entry)) (a 
       let x = subst (λ p. IsSettledImage one q i (slice_index_or shown.images p d)) split (settled_image one times a playable settled shown q i d small few) in
       let y = subst (λ p. IsSettledImage other q i (slice_index_or seen.images p d)) place
       (settled_image other more b fits too seen q i d (subst (λ c. i < c) same small) (subst (λ t. q < t) alike.jobs.times few)) in
-      one_image law one.script one.fonts one.job.size one.job.format (play_instant one.job i) q _ _ playable.script (at_place one q i _ x) (moved one other alike q i _ (at_place other q i _ y))
+      one_image law one.script one.fonts one.job.size (play_form one) (play_instant one.job i) q _ _ playable.script (at_place one q i _ x) (moved one other alike q i _ (at_place other q i _ y))
 
   image_of : (k : ℕ) (d : List ℕ) → k < frame_count one.job → slice_index_or shown.images k d ≡ slice_index_or seen.images k d
   image_of k d lt =
@@ -105,7 +115,7 @@ module _ (law : Law) (script : ScriptValue) (seed events : ℕ) (a b : List ℕ)
 
   piece_of : (i : ℕ) (d : List ℕ) → i < image_count → slice_index_or one.pieces i d ≡ slice_index_or other.pieces i d
   piece_of i d lt =
-      one_image law script play.fonts play.job.size play.job.format (play_instant play.job i) 0 _ _ one.sound (at_place play 0 i _ (one.each i d lt)) (at_place play 0 i _ (other.each i d lt))
+      one_image law script play.fonts play.job.size (play_form play) (play_instant play.job i) 0 _ _ one.sound (at_place play 0 i _ (one.each i d lt)) (at_place play 0 i _ (other.each i d lt))
 
   all_pieces : one.pieces ≡ other.pieces
   all_pieces = same_lists one.pieces other.pieces (one.many ∙ sym other.many) (λ k d lt. piece_of k d (subst (λ n. k < n) one.many lt))

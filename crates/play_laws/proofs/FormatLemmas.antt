@@ -15,8 +15,10 @@ use Rattle.mask_keys.specs.Pictures.{image_of_draw, picture}
 use Rattle.pam_text.specs.Pams.{pam_bytes}
 use Rattle.play_model.specs.Images.{IsImageIn}
 use Rattle.ppm_text.specs.Images.{image_bytes}
-use Rattle.run_words.specs.declared.job.FrameFormat.{FrameFormat}
 use Rattle.run_words.specs.declared.job.FrameFormat.TheVariants.{Ppm, Pam, Rgba}
+use Rattle.run_words.specs.declared.job.ImageForm.{ImageForm}
+use Rattle.run_words.specs.declared.job.ImageForm.TheVariants as form
+use Rattle.y4m_text.specs.Streams.{frame_bytes}
 
 -- ---- pixels with alpha
 
@@ -72,19 +74,22 @@ module _ (form : AlphaForm) (images : List Image) (w h : ℕ) where
 -- ---- images
 
 module _ (fonts : List FontValue) (size : Size) (draws : List Draw) (t : ℤ) (n : ℕ) where
-  -- the image of draws in a format
-  abbrev pub formatted : FrameFormat → List ℕ
-  formatted Ppm = image_bytes size.w size.h (picture fonts size draws).bytes t n
-  formatted Pam = pam_bytes size.w size.h (alpha_bytes Straight (map (image_of_draw fonts) draws) size.w size.h) t n
-  formatted Rgba = alpha_bytes Straight (map (image_of_draw fonts) draws) size.w size.h
+  -- the image of draws in a form
+  abbrev pub formatted : ImageForm → List ℕ
+  formatted (form.Image Ppm) = image_bytes size.w size.h (picture fonts size draws).bytes t n
+  formatted (form.Image Pam) = pam_bytes size.w size.h (alpha_bytes Straight (map (image_of_draw fonts) draws) size.w size.h) t n
+  formatted (form.Image Rgba) = alpha_bytes Straight (map (image_of_draw fonts) draws) size.w size.h
+  formatted (form.Video video) = frame_bytes video size (picture fonts size draws).bytes
 
-  pub image_formatted : (format : FrameFormat) (bytes : List ℕ) → IsImageIn format fonts size draws t n bytes → bytes ≡ formatted format
-  image_formatted Ppm bytes is = is
-  image_formatted Pam bytes (pixels, are, value) =
+  pub image_formatted : (f : ImageForm) (bytes : List ℕ) → IsImageIn f fonts size draws t n bytes → bytes ≡ formatted f
+  image_formatted (form.Image Ppm) bytes is = is
+  image_formatted (form.Image Pam) bytes (pixels, are, value) =
       value ∙ ap (λ (p : List ℕ). pam_bytes size.w size.h p t n) (rows_are Straight (map (image_of_draw fonts) draws) size.w size.h pixels are)
-  image_formatted Rgba bytes are = rows_are Straight (map (image_of_draw fonts) draws) size.w size.h bytes are
+  image_formatted (form.Image Rgba) bytes are = rows_are Straight (map (image_of_draw fonts) draws) size.w size.h bytes are
+  image_formatted (form.Video video) bytes is = is
 
-  pub formatted_image : (format : FrameFormat) → IsImageIn format fonts size draws t n (formatted format)
-  formatted_image Ppm = refl
-  formatted_image Pam = (alpha_bytes Straight (map (image_of_draw fonts) draws) size.w size.h, are_rows Straight (map (image_of_draw fonts) draws) size.w size.h, refl)
-  formatted_image Rgba = are_rows Straight (map (image_of_draw fonts) draws) size.w size.h
+  pub formatted_image : (f : ImageForm) → IsImageIn f fonts size draws t n (formatted f)
+  formatted_image (form.Image Ppm) = refl
+  formatted_image (form.Image Pam) = (alpha_bytes Straight (map (image_of_draw fonts) draws) size.w size.h, are_rows Straight (map (image_of_draw fonts) draws) size.w size.h, refl)
+  formatted_image (form.Image Rgba) = are_rows Straight (map (image_of_draw fonts) draws) size.w size.h
+  formatted_image (form.Video video) = refl

@@ -10,7 +10,7 @@ use native.Mathlib.Decide.{dec_le}
 use Rattle.ass_events.specs.Histories.{Entry, Flush}
 use Rattle.play_laws.proofs.FormatLemmas.{formatted, formatted_image}
 use Rattle.play_laws.specs.Fronts.{HavePictures, IsFrontOfTimes}
-use Rattle.play_model.specs.Images.{IsCountAt, IsImageAt, entries_before}
+use Rattle.play_model.specs.Images.{IsCountAt, IsImageAt, entries_before, play_form}
 use Rattle.play_model.specs.Outputs.{AreImages, IsShownPlay}
 use Rattle.play_model.specs.Plays.{IsTimeOf, PlayView, events_before, events_in, good_before, good_count, history_of_times}
 use Rattle.play_model.specs.Times.{history_before}
@@ -61,7 +61,7 @@ module _ (play : PlayView) where
     image_at q i lt =
         let found = entries_at q i lt play.job.mode in
         let picture = pictures times found.0 (play_instant play.job i) each in (
-          formatted play.fonts play.job.size picture.1.draws (play_instant play.job i) (length (take found.0 history)) play.job.format,
+          formatted play.fonts play.job.size picture.1.draws (play_instant play.job i) (length (take found.0 history)) (play_form play),
           record {
             n = found.0;
             within = found.1;
@@ -69,7 +69,7 @@ module _ (play : PlayView) where
             image = record {
               draws = picture.1.draws;
               are_draws = picture.1.are_draws;
-              value = formatted_image play.fonts play.job.size picture.1.draws (play_instant play.job i) (length (take found.0 history)) play.job.format;
+              value = formatted_image play.fonts play.job.size picture.1.draws (play_instant play.job i) (length (take found.0 history)) (play_form play);
             };
           },
         )

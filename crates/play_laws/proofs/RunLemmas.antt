@@ -1,5 +1,5 @@
 -- Runs of plays: over right files they are done, and settled ones over the same files put the same bytes.
-use Rattle.std.proofs.Common.{◌≡◌, ◌∙◌, inl, inr, refl, sym, ap, subst, arith, ℕ, ◌<◌, ◌≤◌, Bool, true, false, ◌&&◌, cond, le-ltb, nat_le, List, [], ◌∷◌, length, Option, Some, None, Result, Ok, Err}
+use Rattle.std.proofs.Common.{◌≡◌, ◌∙◌, inl, inr, refl, sym, ap, subst, arith, ℕ, ◌<◌, ◌≤◌, Bool, true, false, ◌&&◌, cond, le-ltb, nat_le, List, [], ◌∷◌, ◌++◌, length, Option, Some, None, Result, Ok, Err}
 use Rattle.std.specs.Io.KnownBytes.{Appends}
 use Rattle.ass_io.specs.Fetched.{Told}
 use Rattle.ass_io.specs.Fetches.{FetchChange}
@@ -9,9 +9,9 @@ use Rattle.single_run.specs.Runs.{SinkChange}
 use Rattle.run_status.specs.Inputs.{AreFilesRead, AreRead}
 use Rattle.run_status.specs.Laws.{AreTold, FilesDecide}
 use Rattle.run_status.specs.declared.inputs.Inputs.{Inputs}
-use Rattle.play_command.specs.PlayRuns.{AreReadUnless, DecidesPlay, IsPlayAsked, IsPlayPut, IsPlayRead, IsPlayRun, has_too_many, play_refusal, view_of}
-use Rattle.play_laws.proofs.AgreementLemmas.{Law, plays_agree}
-use Rattle.play_laws.specs.Agreement.{JobsAlike}
+use Rattle.play_command.specs.PlayRuns.{AreReadUnless, DecidesPlay, IsPlayAsked, IsPlayPut, IsPlayRead, IsPlayRun, has_too_many, play_head_bytes, play_refusal, view_of}
+use Rattle.play_laws.proofs.AgreementLemmas.{Law, plays_agree, same_head}
+use Rattle.play_laws.specs.Agreement.{JobsAlike, PlayAlike}
 use Rattle.play_model.specs.Plays.{IsPlayable}
 use Rattle.play_shares.specs.Instants.{frame_count}
 use Rattle.play_shares.specs.Limits.{max_frames}
@@ -101,11 +101,18 @@ module _ (told : List ℕ → Told) (script : ScriptSource) (fonts : List (List 
       same : x.inputs ≡ y.inputs
       same = same_inputs x.inputs y.inputs x.read y.read
 
+      both : PlayAlike (view_of one x.inputs) (view_of other y.inputs)
+      both = record { script = ap (λ (i : Inputs). i.script) same; fonts = ap (λ (i : Inputs). i.fonts) same; jobs = alike }
+
+      same_shown : ((x.put).2).shown ≡ ((y.put).2).shown
+      same_shown =
+          plays_agree law (view_of one x.inputs) (view_of other y.inputs) ((x.put).2).output.whole.times ((y.put).2).output.whole.times ((x.put).2).shown ((y.put).2).shown x.playable y.playable
+          both settled too ((x.put).2).output.whole.shown ((y.put).2).output.whole.shown
+
       same_bytes : (x.put).0 ≡ (y.put).0
       same_bytes =
-          plays_agree law (view_of one x.inputs) (view_of other y.inputs) ((x.put).2).whole.times ((y.put).2).whole.times (x.put).0 (y.put).0 x.playable y.playable
-          (record { script = ap (λ (i : Inputs). i.script) same; fonts = ap (λ (i : Inputs). i.fonts) same; jobs = alike })
-          settled too ((x.put).2).whole.shown ((y.put).2).whole.shown
+          ((x.put).2).value ∙ ap (λ head. head ++ ((x.put).2).shown) (same_head (view_of one x.inputs) (view_of other y.inputs) both)
+          ∙ ap (λ shown. play_head_bytes (view_of other y.inputs) ++ shown) same_shown ∙ sym ((y.put).2).value
 
       both_got : (bytes : List ℕ) × Appends frames.before.held frames.now.held bytes × Appends more.before.held more.now.held bytes
       both_got = ((x.put).0, (x.put).3, subst (λ (bytes : List ℕ). Appends more.before.held more.now.held bytes) (sym same_bytes) (y.put).3)

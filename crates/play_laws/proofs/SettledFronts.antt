@@ -15,7 +15,7 @@ use Rattle.play_laws.specs.Fronts.{IsFrontOfTimes}
 use Rattle.play_model.proofs.Counts.{good_is, time_long}
 use Rattle.play_model.proofs.SettledLaws.{whole_time}
 use Rattle.play_model.proofs.TimeLaws.{TimeAt, settled_image, time_at}
-use Rattle.play_model.specs.Images.{IsCountAt, IsImageAt, IsImageIn, IsImageOf, IsSettledImage}
+use Rattle.play_model.specs.Images.{IsCountAt, IsImageAt, IsImageIn, IsImageOf, IsSettledImage, play_form}
 use Rattle.play_model.specs.Outputs.{IsShownPlay}
 use Rattle.play_model.specs.Plays.{IsPlayable, IsTimeOf, PlayView, good_count, history_of_times}
 use Rattle.play_shares.specs.Instants.{frame_count, instant_count, play_instant}
@@ -56,7 +56,7 @@ module _ (play : PlayView) (playable : IsPlayable play) (settled : play.job.mode
     draws = of_all.draws;
     are_draws = draws_of_a_set play.script play.fonts (live until) (line_events play.script) (play_instant play.job i) (plain_frame play.job.size) of_all.draws
         (whole_time play own.old own.time some own.dead own.holds) of_all.are_draws;
-    value = subst (λ (n : ℕ). IsImageIn play.job.format play.fonts play.job.size of_all.draws (play_instant play.job i) n piece) (until_long ∙ ap (λ n. q * (n + 1) + n) (good_is play some)) of_all.value;
+    value = subst (λ (n : ℕ). IsImageIn (play_form play) play.fonts play.job.size of_all.draws (play_instant play.job i) n piece) (until_long ∙ ap (λ n. q * (n + 1) + n) (good_is play some)) of_all.value;
   }
 
 -- ---- all of them
@@ -78,7 +78,7 @@ module _ (law : Law) (one other : PlayView) (playable : IsPlayable one) (fits : 
       (settled_at one playable settled early.times early.as_many early.each q i few (slice_index_or early.images (q * count + i) d) (early.are q i d small inside)) in
       let y = subst (λ p. IsSettledImage other q i (slice_index_or seen.images p d)) place
       (settled_image other more bytes fits too seen q i d (subst (λ c. i < c) same small) (subst (λ t. q < t) alike.jobs.times few)) in
-      one_image law one.script one.fonts one.job.size one.job.format (play_instant one.job i) q _ _ playable.script (at_place one q i _ x) (moved one other alike q i _ (at_place other q i _ y))
+      one_image law one.script one.fonts one.job.size (play_form one) (play_instant one.job i) q _ _ playable.script (at_place one q i _ x) (moved one other alike q i _ (at_place other q i _ y))
 
   same_image : (k : ℕ) (d : List ℕ) → k < many → slice_index_or early.images k d ≡ slice_index_or seen.images k d
   same_image k d lt =

@@ -1,7 +1,7 @@
 -- A play of only what changes is expanded to the settled play of the same files.
 use Rattle.std.proofs.Common.{◌≡◌, ◌∙◌, ℕ, ◌+◌, ◌*◌, ◌<◌, pos, List, [], ◌∷◌, ◌++◌, fold, length, map, append-nil, Result, Ok, Err, refl, sym, ap, subst, arith}
 use Rattle.std.specs.Io.KnownBytes.{Appends}
-use Rattle.std.specs.List.{slice_index_or}
+use Rattle.std.specs.List.{flat_map, slice_index_or}
 use Rattle.std.proofs.lemmas.List.{length-replicate}
 use Rattle.alpha_canvas.specs.declared.pixel.AlphaForm.TheVariants.{Straight}
 use Rattle.ass_events.specs.ScriptEvents.{line_events}
@@ -25,16 +25,21 @@ use Rattle.play_laws.proofs.FormatLemmas.{rows_are}
 use Rattle.play_laws.proofs.RunLemmas.{DoneRun, done_run, read_not_done, same_inputs}
 use Rattle.play_laws.specs.StillPlays.{AreExpanded, AreMadeByParts, FirstPart, HasPut, IsExpandedTo, NextPart, NoParts, StillsAlike, StillsShowThePlay, image_in_time}
 use Rattle.play_model.proofs.TimeLaws.{settled_image}
-use Rattle.play_model.specs.Images.{IsImageIn}
+use Rattle.play_model.specs.Heads.{head_in, play_head}
+use Rattle.play_model.specs.Images.{IsImageIn, play_form}
 use Rattle.play_model.specs.Outputs.{IsShownPlay}
 use Rattle.run_status.specs.Inputs.{AreRead}
 use Rattle.run_status.specs.Laws.{AreTold, FilesDecide}
 use Rattle.run_status.specs.declared.inputs.Inputs.{Inputs}
 use Rattle.run_status.specs.declared.status.Status.{Status}
 use Rattle.run_status.specs.declared.status.Status.TheVariants.{Done}
+use Rattle.run_words.specs.Forms.{image_form}
 use Rattle.run_words.specs.declared.job.FrameFormat.{FrameFormat}
 use Rattle.run_words.specs.declared.job.FrameFormat.TheVariants.{Ppm, Pam, Rgba}
+use Rattle.run_words.specs.declared.job.ImageForm.{ImageForm}
+use Rattle.run_words.specs.declared.job.ImageForm.TheVariants as form
 use Rattle.run_words.specs.declared.job.Mode.TheVariants.{Settled}
+use Rattle.run_words.specs.declared.job.PlayFormat.{PlayFormat}
 use Rattle.run_words.specs.declared.job.PlayJob.{PlayJob}
 use Rattle.run_words.specs.declared.job.ScriptSource.{ScriptSource}
 use Rattle.run_words.specs.declared.job.StillsJob.{StillsJob}
@@ -90,7 +95,7 @@ parts_make crops view _ _ (NextStill place before last box pixels old at least) 
 
 -- Pixels of draws make the image of these.
 pixels_make_image : (format : FrameFormat) (fonts : List FontValue) (size : Size) (draws : List Draw) (t n : ℕ) (pixels bytes : List ℕ) → ArePixelsOf format fonts size draws pixels
-    → IsImageIn format fonts size draws (pos t) n bytes → bytes ≡ image_of_pixels format size pixels t n
+    → IsImageIn (form.Image format) fonts size draws (pos t) n bytes → bytes ≡ image_of_pixels format size pixels t n
 pixels_make_image Ppm fonts size draws t n pixels bytes are is = is ∙ ap (λ (p : List ℕ). image_bytes size.w size.h p (pos t) n) (sym are)
 pixels_make_image Pam fonts size draws t n pixels bytes are (other, rows, value) =
     let images = map (image_of_draw fonts) draws in
@@ -106,23 +111,30 @@ module _ (law : Law) (stills : StillsJob) (play : PlayJob) (inputs : Inputs) (al
   same_count : stills.instants.count ≡ play.instants.count
   same_count = ap (λ (instants : Instants). instants.count) alike.instants
 
+  same_form : play_form (view_of play inputs) ≡ form.Image stills.format
+  same_form = ap (λ (f : PlayFormat). image_form f inputs.script.header.matrix) alike.format
+
+  -- Nothing stands before the images.
+  no_head : play_head (view_of play inputs) ≡ []
+  no_head = ap (λ (f : ImageForm). head_in f play.size play.instants.rate) same_form
+
   -- the image that a play has at a place, by the job of kept pictures
-  moved : (q i : ℕ) (bytes : List ℕ) → IsAt inputs.script inputs.fonts play.size play.format (pos (rated_instant play.instants i)) q bytes
-      → IsAt inputs.script inputs.fonts stills.size stills.format (pos (rated_instant stills.instants i)) q bytes
+  moved : (q i : ℕ) (bytes : List ℕ) → IsAt inputs.script inputs.fonts play.size (play_form (view_of play inputs)) (pos (rated_instant play.instants i)) q bytes
+      → IsAt inputs.script inputs.fonts stills.size (form.Image stills.format) (pos (rated_instant stills.instants i)) q bytes
   moved q i bytes h =
-      subst (λ (z : Size). IsAt inputs.script inputs.fonts z stills.format (pos (rated_instant stills.instants i)) q bytes) (sym alike.size)
-      (subst (λ (f : FrameFormat). IsAt inputs.script inputs.fonts play.size f (pos (rated_instant stills.instants i)) q bytes) (sym alike.format)
-      (subst (λ (instants : Instants). IsAt inputs.script inputs.fonts play.size play.format (pos (rated_instant instants i)) q bytes) (sym alike.instants) h))
+      subst (λ (z : Size). IsAt inputs.script inputs.fonts z (form.Image stills.format) (pos (rated_instant stills.instants i)) q bytes) (sym alike.size)
+      (subst (λ (f : ImageForm). IsAt inputs.script inputs.fonts play.size f (pos (rated_instant stills.instants i)) q bytes) same_form
+      (subst (λ (instants : Instants). IsAt inputs.script inputs.fonts play.size (play_form (view_of play inputs)) (pos (rated_instant instants i)) q bytes) (sym alike.instants) h))
 
   -- It is that of the pixels there.
   image_there : (q i : ℕ) (pixels bytes : List ℕ) → IsScript inputs.script → ArePixelsAt view i pixels
-      → IsAt inputs.script inputs.fonts stills.size stills.format (pos (rated_instant stills.instants i)) q bytes → bytes ≡ image_in_time view q i pixels
+      → IsAt inputs.script inputs.fonts stills.size (form.Image stills.format) (pos (rated_instant stills.instants i)) q bytes → bytes ≡ image_in_time view q i pixels
   image_there q i pixels bytes sound at (draws, are, is) =
       let t : ℕ = rated_instant stills.instants i in
       let n : ℕ = q * (length (line_events inputs.script) + 1) + length (line_events inputs.script) in
       let same : draws ≡ at.draws = law inputs.script inputs.fonts sound (line_events inputs.script) (pos t) (plain_frame stills.size) draws at.draws are at.are_draws in
       pixels_make_image stills.format inputs.fonts stills.size at.draws t n pixels bytes at.are_pixels
-      (subst (λ (d : List Draw). IsImageIn stills.format inputs.fonts stills.size d (pos t) n bytes) same is)
+      (subst (λ (d : List Draw). IsImageIn (form.Image stills.format) inputs.fonts stills.size d (pos t) n bytes) same is)
 
 -- ---- the runs
 
@@ -171,14 +183,14 @@ module _ (told : List ℕ → Told) (script : ScriptSource) (fonts : List (List 
     one_put : PutStills stills frames report inputs
     one_put = subst (PutStills stills frames report) same one.2
 
-    abbrev shown : IsShownPlay (view_of play inputs) ((other.put).2).whole.times (other.put).0
-    shown = ((other.put).2).whole.shown
+    abbrev shown : IsShownPlay (view_of play inputs) ((other.put).2).output.whole.times ((other.put).2).shown
+    shown = ((other.put).2).output.whole.shown
 
     image_at : (q i : ℕ) (d : List ℕ) (pixels : List ℕ) → q < play.times → i < play.instants.count → ArePixelsAt (kept_view stills inputs) i pixels
         → slice_index_or shown.images (q * play.instants.count + i) d ≡ image_in_time (kept_view stills inputs) q i pixels
     image_at q i d pixels few lt at =
         let bytes : List ℕ = slice_index_or shown.images (q * play.instants.count + i) d in
-        let image = settled_image (view_of play inputs) ((other.put).2).whole.times (other.put).0 other.playable settled shown q i d lt few in
+        let image = settled_image (view_of play inputs) ((other.put).2).output.whole.times ((other.put).2).shown other.playable settled shown q i d lt few in
         image_there law stills play inputs alike q i pixels bytes other.playable.script at (moved law stills play inputs alike q i bytes (at_place (view_of play inputs) q i bytes image))
 
     expanded : AreExpanded (kept_view stills inputs) one_put.kept play.times shown.images
@@ -196,10 +208,13 @@ module _ (told : List ℕ → Told) (script : ScriptSource) (fonts : List (List 
         }
 
     played : HasPut shown.images more
-    played = record {
-      held = subst (λ (bytes : List ℕ). Appends more.before.held more.now.held bytes) shown.value (other.put).3;
-      asked = (other.put).6;
-    }
+    played =
+        let none : play_head (view_of play inputs) ≡ [] = no_head law stills play inputs alike in
+        let bare : (other.put).0 ≡ ((other.put).2).shown = ((other.put).2).value ∙ ap (λ (head : List (List ℕ)). flat_map (λ piece. piece) head ++ ((other.put).2).shown) none in
+        record {
+          held = subst (λ (bytes : List ℕ). Appends more.before.held more.now.held bytes) (bare ∙ shown.value) (other.put).3;
+          asked = (other.put).6 ∙ ap (λ (head : List (List ℕ)). more.before.asked ++ (head ++ shown.images)) none;
+        }
 
     both_show : IsExpandedTo (kept_view stills inputs) play.times frames report more
     both_show = record {

@@ -12,6 +12,7 @@ use Rattle.run_status.specs.Laws.{AreTold}
 use Rattle.run_status.specs.declared.inputs.Inputs.{Inputs}
 use Rattle.run_status.specs.declared.status.Status.TheVariants.{Done}
 use Rattle.run_words.specs.declared.job.Mode.TheVariants.{Settled}
+use Rattle.run_words.specs.declared.job.PlayFormat.TheVariants.{Image}
 use Rattle.run_words.specs.declared.job.PlayJob.{PlayJob}
 use Rattle.run_words.specs.declared.job.StillsJob.{StillsJob}
 use Rattle.single_run.specs.Outputs.{kept_view}
@@ -23,11 +24,11 @@ use Rattle.still_images.specs.Formats.{image_of_pixels, pixel_bytes}
 use Rattle.still_images.specs.Laws.{IsLaidOver, IsLastBefore}
 use Rattle.still_images.specs.Stills.{AreStills, Still, StillsView, index_text, still_images}
 
--- The jobs are of the same instants and of the same size, in the same format. All else may differ.
+-- The jobs are of the same instants and of the same size, and each image of the play is by itself, in the format of the other. All else may differ.
 pub record StillsAlike (stills : StillsJob) (play : PlayJob) : Type 0 where
   pub instants : stills.instants ≡ play.instants
   pub size : stills.size ≡ play.size
-  pub format : stills.format ≡ play.format
+  pub format : play.format ≡ Image stills.format
 
 -- A sink was asked to put these pieces, one after another, and got them whole.
 pub record HasPut (pieces : List (List ℕ)) (sink : SinkChange) : Type 0 where
