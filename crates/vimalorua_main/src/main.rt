@@ -40,7 +40,8 @@ fn main(rt: HostRuntime) -> ExitCode {
     };
     let words = words.as_slice();
     let is_terminal = rt.stderr().is_terminal();
-    let asked = watched(rt.alloc(), words);
+    // Where memory runs out nothing is watched; the run itself tells of it, if it runs out there too.
+    let asked = watched(rt.alloc(), words).unwrap_or(None);
     let hook = MeterHook {
         meter: meter_of(rt, is_terminal, asked),
     };

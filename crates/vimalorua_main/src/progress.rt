@@ -48,7 +48,10 @@ impl<S: PipedSink + Drop, W: Write + Drop> Sink for CountedSink<S, W> {
 
     fn put(&mut self, piece: &[u8]) -> Put {
         let put = self.sink.put(piece);
-        self.tell();
+        // The head of a video is no image.
+        if !piece.starts_with(b"YUV4MPEG2 ") {
+            self.tell();
+        }
         put
     }
 }
