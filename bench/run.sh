@@ -12,7 +12,7 @@ is_fresh() {
     local crate
     [ -x "$program" ] || return 1
     for crate in ass_num region_rows sample_region outline_points cancelled_edges fixed_outline border_region mask_cover mask_blur \
-        event_places blend bdf_font drawing_path kernel_bench; do
+        event_places blend alpha_canvas bdf_font drawing_path kernel_bench; do
         [ -z "$(find "$top/crates/$crate/src" -newer "$program" -print -quit)" ] || return 1
     done
 }
@@ -51,5 +51,8 @@ measure shift 1000000 5
 measure draw 64 5000
 measure draw 256 1000
 measure draw 1080 100
+measure alpha 64 1000
+measure alpha 256 500
+measure alpha 1080 50
 
 printf '\nload after: %s\n' "$(cut -d ' ' -f 1-3 /proc/loadavg)"

@@ -10,7 +10,7 @@ use std::alloc::Global;
 use std::time::Instant;
 
 /// A white of this alpha.
-fn white(alpha: u8) -> Rgba {
+pub fn white(alpha: u8) -> Rgba {
     Rgba {
         r: 255,
         g: 255,
@@ -19,8 +19,9 @@ fn white(alpha: u8) -> Rgba {
     }
 }
 
-fn draw(canvas: &mut Canvas, mask: &Mask, colour: Rgba) {
-    canvas.draw(&Image {
+/// A mask in the corner, in one colour.
+pub fn corner(mask: &Mask, colour: Rgba) -> Image<&Mask> {
+    Image {
         mask,
         x: 0,
         y: 0,
@@ -28,7 +29,7 @@ fn draw(canvas: &mut Canvas, mask: &Mask, colour: Rgba) {
         right: colour,
         edge: 0,
         stencil: Stencil::Free,
-    });
+    }
 }
 
 fn screen(alloc: Global) -> Result<Canvas, Stop> {
@@ -50,7 +51,7 @@ fn measure_square(
     let mut laps = Laps::new();
     for _ in 0..turns {
         let began = Instant::now(rt)?;
-        draw(&mut canvas, &mask, colour);
+        canvas.draw(&corner(&mask, colour));
         laps.add(began.elapsed(rt)?);
     }
     let first = canvas.pixels().first().copied().unwrap_or(0);

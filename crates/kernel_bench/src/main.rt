@@ -2,6 +2,7 @@
 //! to standard error how long a turn takes. Without words it takes one turn of each kernel on a small input.
 #![tactic(auto)]
 
+mod alpha;
 mod blurring;
 mod border;
 mod boxes;
@@ -47,12 +48,13 @@ fn measure(rt: &HostRuntime, kernel: &str, size: u32, turns: u32) -> Result<(), 
         "blur" => blurring::measure(rt, size, turns),
         "shift" => boxes::measure(rt, size, turns),
         "draw" => drawing::measure(rt, size, turns),
+        "alpha" => alpha::measure(rt, size, turns),
         _ => Err(Stop::UnknownWords),
     }
 }
 
 /// Small inputs.
-const SMALL: [(&str, u32); 11] = [
+const SMALL: [(&str, u32); 12] = [
     ("outline", 2),
     ("drawing", 3),
     ("letter", 8),
@@ -64,6 +66,7 @@ const SMALL: [(&str, u32); 11] = [
     ("blur", 8),
     ("shift", 6),
     ("draw", 2),
+    ("alpha", 2),
 ];
 
 fn measure_small(rt: &HostRuntime) -> Result<(), Stop> {

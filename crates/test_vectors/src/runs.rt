@@ -106,10 +106,11 @@ pub fn told(lent: &impl Rt, rt: &HostRuntime, line: &str) -> Mem<String> {
     ran_told(rt.alloc(), &ran)
 }
 
-/// The exit status, and the list of images.
+/// The exit status, how much the sink of the list held before it made the file, and the list of images.
 pub fn list(lent: &impl Rt, rt: &HostRuntime, line: &str) -> Mem<String> {
     let ran = over_files(lent, rt, line)?;
-    shown(rt.alloc(), &(ran.exit, BStr::new(ran.index.bytes())))
+    let list = BStr::new(ran.index.bytes());
+    shown(rt.alloc(), &(ran.exit, ran.index.file_at(), list))
 }
 
 /// The exit status, and the digest of the images.
