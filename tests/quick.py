@@ -9,6 +9,7 @@ Its parts, which all are tried where none is named:
   runs       the runs of tests/runs/: words, reports, pictures, changes, scripts written again, selftests
   views      that letters in the frames of several videos stand where libass has them
   over_video that frames have the bytes of their formats, and instants stand at their rates
+  video_streams that plays as YUV4MPEG2 streams have the numbers of their matrix, and FFmpeg's within 1
   films      subtitles over films by ffmpeg, where it is
   machines   plays that several machines share, where GNU parallel is
   writes     that scripts written again show the same pictures, and are written as the same bytes
@@ -44,6 +45,7 @@ import over_video  # noqa: E402
 import plays  # noqa: E402
 import reports  # noqa: E402
 import stored  # noqa: E402
+import video_streams  # noqa: E402
 import views  # noqa: E402
 
 RUNS = ["words", "reports", "pictures", "truetype", "faces", "writes"]
@@ -96,6 +98,7 @@ PARTS = {
     "runs": runs,
     "views": views.views,
     "over_video": over_video.over_video,
+    "video_streams": video_streams.video_streams,
     "films": films.films,
     "machines": machines.machines,
     "writes": plays.writes,

@@ -209,8 +209,6 @@ def readers(score, given):
     for words in (PLAY, KEPT):
         begin = ran(given, words)[1][:1000]
         for more, status, line in said:
-            if more == ["--progress"] and words == KEPT:
-                continue
             command, *rest = words.split()
             run = subprocess.Popen([given.program, command, *more, *rest], cwd=given.room, stdout=subprocess.PIPE, stderr=subprocess.PIPE)
             got = os.read(run.stdout.fileno(), 1000)
@@ -268,7 +266,7 @@ def on_terminal(given, words, *more):
 
 def terminals(score, given):
     """A terminal is shown how far a run is, once a second and at its end, and a pipe nothing of that."""
-    for words, total in (("selftest 1 100", 20), (f"{PLAY} --times 2", 144), (CHANGES, 72)):
+    for words, total in (("selftest 1 100", 20), (f"{PLAY} --times 2", 144), (CHANGES, 72), (KEPT, 72)):
         said = drawn_well(score, given, words, total)
         left = re.sub(DRAWN, "", said).replace("\r\x1b[K", "").replace("\r\n", "\n").strip("\n") + "\n"
         report = ran(given, words, "--report", "json")[2].decode()
