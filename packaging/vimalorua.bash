@@ -19,7 +19,7 @@ _vimalorua() {
     selftest) options="--workers $report --progress" ;;
     play)
         options='--from --to --frames --step --rate --size --feeders --renderers --batch --again --times --ahead --bands'
-        options+=" --format --changed --crop --budget --mode $report --index --progress --quiet-pipe --script-fonts"
+        options+=" --format --matrix --chroma --changed --crop --budget --mode $report --index --progress --quiet-pipe --script-fonts"
         ;;
     esac
     case $before in
@@ -29,7 +29,14 @@ _vimalorua() {
         mapfile -t COMPREPLY < <(compgen -f -- "$word")
         compopt -o filenames 2> /dev/null
         ;;
-    --format) mapfile -t COMPREPLY < <(compgen -W 'ppm pam rgba' -- "$word") ;;
+    --format)
+        case ${COMP_WORDS[1]} in
+        play) mapfile -t COMPREPLY < <(compgen -W 'ppm pam rgba y4m' -- "$word") ;;
+        *) mapfile -t COMPREPLY < <(compgen -W 'ppm pam rgba' -- "$word") ;;
+        esac
+        ;;
+    --matrix) mapfile -t COMPREPLY < <(compgen -W 'script TV.601 PC.601 TV.709 PC.709 TV.240M PC.240M TV.FCC PC.FCC' -- "$word") ;;
+    --chroma) mapfile -t COMPREPLY < <(compgen -W '420 444' -- "$word") ;;
     --rate) mapfile -t COMPREPLY < <(compgen -W '24000/1001 24 25 30000/1001 30 50 60000/1001 60' -- "$word") ;;
     --letters) mapfile -t COMPREPLY < <(compgen -W 'script aspect' -- "$word") ;;
     --size) mapfile -t COMPREPLY < <(compgen -W '640x360 1280x720 1920x1080 3840x2160' -- "$word") ;;
