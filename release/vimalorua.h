@@ -132,6 +132,12 @@ enum {
     VIMALORUA_BY_ASPECT = 1  /* by its rows and the shape of the video's pixels: letters keep their shape, as libass's do */
 };
 
+/* What the colour of a pixel with alpha says. */
+enum {
+    VIMALORUA_STRAIGHT = 0,     /* the colour by itself */
+    VIMALORUA_PREMULTIPLIED = 1 /* the colour times the alpha */
+};
+
 /* What a frame is to a script: where the video's picture stands in it, and what is known of the video. `size` is
  * sizeof(vimalorua_view) as the program was built with it: what it doesn't reach is taken as 0, so that the struct may
  * grow. Where all is 0 but size, w and h, the size alone is known, as in vimalorua_draw.
@@ -250,6 +256,19 @@ int32_t vimalorua_draw_in(vimalorua *handle, int64_t ms, const vimalorua_view *v
 int32_t vimalorua_images_in(vimalorua *handle, int64_t ms, const vimalorua_view *view, int32_t *change, size_t *count,
                             size_t *bytes) VIMALORUA_NO_NULLS((1, 3, 4, 5, 6));
 
+/* Draws what is shown with alpha, over nothing in place of black, into just 4 * w * h bytes: red, green, blue and alpha of
+ * each pixel, row by row. An alpha of 0 shows nothing, and 255 hides what lies below. `form` is VIMALORUA_STRAIGHT or
+ * VIMALORUA_PREMULTIPLIED: over a channel d of any background the picture makes, where v is the channel of the pixel and
+ * a its alpha, div(d * (255 - a) + v * a) of the one, and v + div(d * (255 - a)) of the other, with div as of
+ * vimalorua_images. It differs by at most 1 from painting the images on that background exactly, rounded once. They came
+ * with version 1.8.
+ *
+ * DONE. NO_FONT, OUT_OF_MEMORY, BAD_CALL, CLOSED: the bytes stay. */
+int32_t vimalorua_draw_alpha(vimalorua *handle, int64_t ms, uint32_t w, uint32_t h, uint32_t form, uint8_t *out,
+                             size_t out_len) VIMALORUA_NO_NULLS((1));
+int32_t vimalorua_draw_alpha_in(vimalorua *handle, int64_t ms, const vimalorua_view *view, uint32_t form,
+                                uint8_t *out, size_t out_len) VIMALORUA_NO_NULLS((1, 3));
+
 /* Copies the list that is kept into just as many images, and just as many bytes for their masks, one image's behind the
  * other's, as vimalorua_images told. It may be copied again: only a vimalorua_images or vimalorua_images_in that is
  * DONE changes it.
@@ -319,6 +338,14 @@ int32_t vimalorua_try_draw(vimalorua_seat *seat, int64_t ms, uint32_t w, uint32_
                            size_t *entries) VIMALORUA_NO_NULLS((1, 7));
 int32_t vimalorua_try_draw_in(vimalorua_seat *seat, int64_t ms, const vimalorua_view *view, uint8_t *out,
                               size_t out_len, size_t *entries) VIMALORUA_NO_NULLS((1, 3, 6));
+
+/* Draws the same with alpha, as vimalorua_draw_alpha and vimalorua_draw_alpha_in do. They came with version 1.8.
+ *
+ * DONE. NO_FONT, BUSY, OUT_OF_MEMORY, BAD_CALL: the bytes stay, and *entries is 0. */
+int32_t vimalorua_try_draw_alpha(vimalorua_seat *seat, int64_t ms, uint32_t w, uint32_t h, uint32_t form, uint8_t *out,
+                                 size_t out_len, size_t *entries) VIMALORUA_NO_NULLS((1, 8));
+int32_t vimalorua_try_draw_alpha_in(vimalorua_seat *seat, int64_t ms, const vimalorua_view *view, uint32_t form,
+                                    uint8_t *out, size_t out_len, size_t *entries) VIMALORUA_NO_NULLS((1, 3, 7));
 
 /* Lists the same as images of one colour each, as vimalorua_images and vimalorua_images_in do, and keeps the list in
  * the seat for vimalorua_seat_copy.
@@ -403,6 +430,24 @@ VIMALORUA_INLINE int32_t vimalorua_draw_in_waiting(vimalorua_seat *seat, int64_t
     unsigned tries = 0;
     int32_t status;
     while ((status = vimalorua_try_draw_in(seat, ms, view, out, out_len, entries)) == VIMALORUA_BUSY)
+        tries = vimalorua_pause_after(tries, pause, with);
+    return status;
+}
+VIMALORUA_INLINE int32_t vimalorua_draw_alpha_waiting(vimalorua_seat *seat, int64_t ms, uint32_t w, uint32_t h,
+                                                      uint32_t form, uint8_t *out, size_t out_len, size_t *entries,
+                                                      vimalorua_pause pause, void *with) {
+    unsigned tries = 0;
+    int32_t status;
+    while ((status = vimalorua_try_draw_alpha(seat, ms, w, h, form, out, out_len, entries)) == VIMALORUA_BUSY)
+        tries = vimalorua_pause_after(tries, pause, with);
+    return status;
+}
+VIMALORUA_INLINE int32_t vimalorua_draw_alpha_in_waiting(vimalorua_seat *seat, int64_t ms, const vimalorua_view *view,
+                                                         uint32_t form, uint8_t *out, size_t out_len, size_t *entries,
+                                                         vimalorua_pause pause, void *with) {
+    unsigned tries = 0;
+    int32_t status;
+    while ((status = vimalorua_try_draw_alpha_in(seat, ms, view, form, out, out_len, entries)) == VIMALORUA_BUSY)
         tries = vimalorua_pause_after(tries, pause, with);
     return status;
 }
