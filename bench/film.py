@@ -52,6 +52,8 @@ def sides(script, fonts):
     rgba = play(script, ["--format", "rgba"])
     yield "`play`, on black", play(script), None
     yield "`play --format rgba`", rgba, None
+    yield "`play --format y4m`", play(script, ["--format", "y4m"]), None
+    yield "`play --format y4m --chroma 444`", play(script, ["--format", "y4m", "--chroma", "444"]), None
     yield "ffmpeg, no subtitles", None, ffmpeg(*FILM)
     yield "ffmpeg `-vf ass`", None, ffmpeg(*FILM, "-vf", f"ass={script}:fontsdir={fonts}")
     yield "`play --format rgba`, ffmpeg `overlay`", rgba, ffmpeg(*FILM, *PIPED, *lay)
