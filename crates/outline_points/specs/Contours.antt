@@ -34,18 +34,22 @@ middle a b = record { x = floor_div (a.x +ℤ b.x) (pos 2); y = floor_div (a.y +
 abbrev pub bend : ℤ → ℤ → ℤ → ℕ
 bend a b c = unsigned_abs ((a -ℤ (pos 2 *ℤ b)) +ℤ c)
 
--- The number of steps n for a bend: the least of 1, 2, 4, 8 and 16 with which it is at most 4 n n, or else 32.
-abbrev pub steps_for : ℕ → ℕ
-steps_for bend =
-    if nat_le bend 4 then 1
-    else if nat_le bend 16 then 2
-    else if nat_le bend 64 then 4
-    else if nat_le bend 256 then 8
-    else if nat_le bend 1024 then 16
+-- The number of steps n for a bend: the least of 1, 2, 4, 8 and 16 with which it is at most flatness times n n, or else 32.
+abbrev pub steps_for : ℕ → ℕ → ℕ
+steps_for flatness bend =
+    if nat_le bend flatness then 1
+    else if nat_le bend (4 * flatness) then 2
+    else if nat_le bend (16 * flatness) then 4
+    else if nat_le bend (64 * flatness) then 8
+    else if nat_le bend (256 * flatness) then 16
     else 32
 
+-- the bend of a quadratic curve in one step
+abbrev pub quadratic_flatness : ℕ
+quadratic_flatness = 4
+
 abbrev pub steps_of : Point → Point → Point → ℕ
-steps_of a b c = steps_for (max (bend a.x b.x c.x) (bend a.y b.y c.y))
+steps_of a b c = steps_for quadratic_flatness (max (bend a.x b.x c.x) (bend a.y b.y c.y))
 
 -- the largest weight of a point in a coordinate of a curve
 abbrev pub max_quadratic_weight : ℕ

@@ -1,5 +1,6 @@
 pub mod Boxes
 pub mod Contours
+pub mod CubicContours
 pub mod Curves
 pub mod Drawings
 pub mod Glyphs

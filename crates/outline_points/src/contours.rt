@@ -12,6 +12,9 @@ use crate::glyphs::scaled_pixel;
 use crate::products::scaled_length;
 use ass_num::{Matrix, Point};
 
+/// The bend of a quadratic curve in one step.
+const QUADRATIC_FLATNESS: u64 = 4;
+
 /// How far a step to the right moves a point once it is scaled.
 pub fn bold_shift(m: &Matrix, step: i64) -> i64
     requires matrix { IsMatrix m.now }
@@ -64,7 +67,7 @@ pub fn curve_end(is_on: bool, neighbour: Point, b: Point) -> Point
 }
 
 /// How far the control point lies from halfway between the ends, twice.
-fn bend(a: i64, b: i64, c: i64) -> u64
+pub(crate) fn bend(a: i64, b: i64, c: i64) -> u64
     requires a { IsWithin max_contour a }
     requires b { IsWithin max_contour b }
     requires c { IsWithin max_contour c }
@@ -73,25 +76,26 @@ fn bend(a: i64, b: i64, c: i64) -> u64
     (a - 2 * b + c).unsigned_abs()
 }
 
-/// The number of steps for a bend.
-fn steps_for(bend: u64) -> u16
-    ensures value { result ≡ steps_for bend }
+/// The number of steps n with which a bend is at most `flatness` n n, up to 32.
+pub(crate) fn steps_for(flatness: u64, bend: u64) -> u16
+    requires flatness { flatness ≤ 4 }
+    ensures value { result ≡ steps_for flatness bend }
     ensures least { 1 ≤ result }
     ensures most { result ≤ 32 }
 {
-    if bend <= 4 {
+    if bend <= flatness {
         return 1;
     }
-    if bend <= 16 {
+    if bend <= 4 * flatness {
         return 2;
     }
-    if bend <= 64 {
+    if bend <= 16 * flatness {
         return 4;
     }
-    if bend <= 256 {
+    if bend <= 64 * flatness {
         return 8;
     }
-    if bend <= 1_024 {
+    if bend <= 256 * flatness {
         return 16;
     }
     32
@@ -107,7 +111,10 @@ pub fn steps_of(a: Point, b: Point, c: Point) -> u16
     ensures least { 1 ≤ result }
     ensures most { result ≤ 32 }
 {
-    steps_for(bend(a.x, b.x, c.x).max(bend(a.y, b.y, c.y)))
+    steps_for(
+        QUADRATIC_FLATNESS,
+        bend(a.x, b.x, c.x).max(bend(a.y, b.y, c.y)),
+    )
 }
 
 /// A coordinate by its weight.

@@ -12,7 +12,7 @@ use crate::products::scaled_length;
 use ass_num::{Matrix, Point};
 
 /// How far italic moves a point at this height to the right.
-fn slant(italic: bool, y: i64) -> i64
+pub(crate) fn slant(italic: bool, y: i64) -> i64
     requires { IsWithin max_scaled_length y }
     ensures value { result ≡ slant italic y }
     ensures within { IsWithin max_scaled_length result }
