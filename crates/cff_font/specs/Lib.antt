@@ -1,0 +1,11 @@
+pub mod Tokens
+pub mod Dicts
+pub mod Indexes
+pub mod Fonts
+pub mod Subroutines
+pub mod Strokes
+pub mod Pens
+pub mod Machines
+pub mod Glyphs
+pub mod Ranges
+pub mod Laws

@@ -1,0 +1,27 @@
+//! PostScript outlines: the table `CFF ` of version 1, and the contours of its glyphs, which charstrings of type 2 draw.
+#![tactic(auto)]
+
+mod blanks;
+mod cause;
+mod dicts;
+mod flex;
+mod glyphs;
+mod indexes;
+mod laws;
+mod lists;
+mod machine;
+mod operators;
+mod pens;
+mod read;
+mod steps;
+mod strokes;
+mod subroutines;
+mod tokens;
+
+pub use blanks::cff_is_blank;
+pub use cause::{CffCause, CffRefusal};
+pub use glyphs::cff_contours;
+pub use indexes::Index;
+pub use laws::{blanks_are_empty, contours_are_total, faults_are_in};
+pub use read::{CffFont, FontDicts, read_cff};
+pub use tokens::Span;
