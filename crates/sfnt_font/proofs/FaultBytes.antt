@@ -15,11 +15,17 @@ use Rattle.sfnt_font.specs.declared.maps.CharacterMap.{CharacterMap}
 use Rattle.sfnt_font.specs.declared.maps.Choice.{Choice}
 use Rattle.sfnt_font.specs.declared.maps.MapFormat.{MapFormat}
 use Rattle.sfnt_font.specs.declared.maps.MapFormat.TheVariants.{Ranges, Groups}
+use Rattle.sfnt_font.specs.declared.tables.Outlines.{Outlines}
 use Rattle.sfnt_font.specs.declared.tables.Tables.{Tables}
+use Rattle.cff_font.specs.declared.cause.CffRefusal.{CffRefusal}
+use Rattle.cff_font.specs.declared.read.CffFont.{CffFont}
+use Rattle.cff_font.specs.Fonts.{cff_of}
+use Rattle.cff_font.specs.Laws.{IsFaultIn}
+use Rattle.cff_font.proofs.TableFaults.{faults-in}
 use Rattle.sfnt_font.specs.Answers.{then_read}
-use Rattle.sfnt_font.specs.Bytes.{u16_at, u32_at}
-use Rattle.sfnt_font.specs.Faces.{bad_face, collection_kind, collection_count, face_count, face_place, is_compressed, is_true_type, max_faces, open_kind, unless_misplaced}
-use Rattle.sfnt_font.specs.Directory.{directory_at, directory_end, table_at, table_end, is_table, table_from, table_named, name_of, least_size, needed_or, needed_table, is_post_script, tables_of, IsTableIn}
+use Rattle.font_bytes.specs.Bytes.{u16_at, u32_at}
+use Rattle.sfnt_font.specs.Faces.{bad_face, collection_kind, collection_count, face_count, face_place, is_compressed, is_face_kind, max_faces, unless_misplaced}
+use Rattle.sfnt_font.specs.Directory.{directory_at, directory_end, table_at, table_end, is_table, table_from, table_named, name_of, least_size, needed_or, needed_table, cff_name, is_second_version, outlines_by, outlines_of, outlines_read, post_script_outlines, table_span, true_type_outlines, tables_of, IsTableIn}
 use Rattle.sfnt_font.specs.Numbers.{sfnt_numbers}
 use Rattle.sfnt_font.specs.Maps.{choice_at, is_read_map, no_choice, no_rank, better, best_map, map_rank, unless_none, chosen_map, groups_map, ranges_map, whole_map, map_of, segment_at, segment_in, segments_from, segments_of, codes_to, group_place, last_code_place, first_code_place, max_code}
 use Rattle.sfnt_font.specs.Fonts.{font_of}
@@ -38,6 +44,9 @@ test_in : {T : Type 0} (bytes : List ℕ) (P : T → Type 0) (b : Bool) (first s
     (b ≡ true → IsReadIn bytes P first) → (b ≡ false → IsReadIn bytes P second) → IsReadIn bytes P (cond b first second)
 test_in bytes P true first second h k = h refl
 test_in bytes P false first second h k = k refl
+
+abbrev Any : {T : Type 0} → T → Type 0
+Any x = Unit {0}
 
 -- ---- faces
 
@@ -106,10 +115,9 @@ EndsIn bytes directory = directory_end directory ≤ length bytes
 
 directory_in : (bytes : List ℕ) (at : ℕ) → at + 12 ≤ length bytes → IsReadIn bytes (EndsIn bytes) (directory_at bytes at)
 directory_in bytes at room =
-    test_in bytes (EndsIn bytes) (u32_at bytes at == open_kind) _ _ (λ _. omega arith) (λ _.
-    test_in bytes (EndsIn bytes) (not (is_true_type (u32_at bytes at))) _ _ (λ _. omega arith) (λ _.
+    test_in bytes (EndsIn bytes) (not (is_face_kind (u32_at bytes at))) _ _ (λ _. omega arith) (λ _.
     test_in bytes (EndsIn bytes) (nat_lt (length bytes) ((at + 12) + 16 * u16_at bytes (at + 4))) _ _ (λ _. omega arith) (λ fits.
-    ltb-false (length bytes) ((at + 12) + 16 * u16_at bytes (at + 4)) fits)))
+    ltb-false (length bytes) ((at + 12) + 16 * u16_at bytes (at + 4)) fits))
 
 from_in : (bytes : List ℕ) (name entry n : ℕ) → IfSome (table_from bytes name entry n) (IsTableIn bytes)
 from_in bytes name entry zero = tt
@@ -131,26 +139,45 @@ needed_in bytes directory tag ends = found (table_named bytes directory (name_of
     found (Some table) h =
         test_in bytes (IsLongTable bytes tag) (nat_lt table.size (least_size tag)) _ _ (λ _. omega (arith, h)) (λ fits. (h, ltb-false table.size (least_size tag) fits))
 
+-- ---- outlines
+
+read_in : (bytes : List ℕ) (table : Table) (r : Result CffFont CffRefusal) → IsTableIn bytes table → IsFaultIn (table_span table) r → IsReadIn bytes Any (outlines_read r)
+read_in bytes table (Ok font) within h = tt
+read_in bytes table (Err refusal) within h = omega (arith, within, h.1)
+
+post_script_in : (bytes : List ℕ) (table : Table) → IsTableIn bytes table → IsReadIn bytes Any (post_script_outlines bytes table)
+post_script_in bytes table within = read_in bytes table (cff_of bytes (table_span table)) within (faults-in bytes (table_span table) (omega arith))
+
+true_type_in : (bytes : List ℕ) (directory : Directory) → EndsIn bytes directory → IsReadIn bytes Any (true_type_outlines bytes directory)
+true_type_in bytes directory ends =
+    then_in bytes (IsLongTable bytes Loca) Any (needed_table bytes directory Loca) _ (needed_in bytes directory Loca ends) (λ loca _.
+    then_in bytes (IsLongTable bytes Glyf) Any (needed_table bytes directory Glyf) _ (needed_in bytes directory Glyf ends) (λ glyf _. tt))
+
+outlines_in : (bytes : List ℕ) (directory : Directory) → EndsIn bytes directory → IsReadIn bytes Any (outlines_of bytes directory)
+outlines_in bytes directory ends = found (table_named bytes directory (name_of Glyf)) (table_named bytes directory cff_name) (from_in bytes cff_name directory.first directory.count)
+  where
+    found : (glyf cff : Option Table) → IfSome cff (IsTableIn bytes) → IsReadIn bytes Any (outlines_by bytes directory glyf cff)
+    found None (Some cff) h = post_script_in bytes cff h
+    found None None h = true_type_in bytes directory ends
+    found (Some glyf) None h = true_type_in bytes directory ends
+    found (Some glyf) (Some cff) h = true_type_in bytes directory ends
+
 -- the tables whose bytes faults name
 abbrev AreLongTables : List ℕ → Tables → Type 0
 AreLongTables bytes tables = IsLongTable bytes Head tables.head × IsLongTable bytes Maxp tables.maxp × IsLongTable bytes Cmap tables.cmap
 
 tables_in : (bytes : List ℕ) (directory : Directory) → EndsIn bytes directory → IsReadIn bytes (AreLongTables bytes) (tables_of bytes directory)
 tables_in bytes directory ends =
-    test_in bytes (AreLongTables bytes) (is_post_script bytes directory) _ _ (λ _. ends) (λ _.
+    test_in bytes (AreLongTables bytes) (is_second_version bytes directory) _ _ (λ _. ends) (λ _.
     then_in bytes (IsLongTable bytes Head) (AreLongTables bytes) (needed_table bytes directory Head) _ (needed_in bytes directory Head ends) (λ head head_in.
     then_in bytes (IsLongTable bytes Maxp) (AreLongTables bytes) (needed_table bytes directory Maxp) _ (needed_in bytes directory Maxp ends) (λ maxp maxp_in.
     then_in bytes (IsLongTable bytes Hhea) (AreLongTables bytes) (needed_table bytes directory Hhea) _ (needed_in bytes directory Hhea ends) (λ hhea hhea_in.
     then_in bytes (IsLongTable bytes Hmtx) (AreLongTables bytes) (needed_table bytes directory Hmtx) _ (needed_in bytes directory Hmtx ends) (λ hmtx hmtx_in.
-    then_in bytes (IsLongTable bytes Loca) (AreLongTables bytes) (needed_table bytes directory Loca) _ (needed_in bytes directory Loca ends) (λ loca loca_in.
-    then_in bytes (IsLongTable bytes Glyf) (AreLongTables bytes) (needed_table bytes directory Glyf) _ (needed_in bytes directory Glyf ends) (λ glyf glyf_in.
+    then_in bytes Any (AreLongTables bytes) (outlines_of bytes directory) _ (outlines_in bytes directory ends) (λ outlines _.
     then_in bytes (IsLongTable bytes Cmap) (AreLongTables bytes) (needed_table bytes directory Cmap) _ (needed_in bytes directory Cmap ends) (λ cmap cmap_in.
-    (head_in, maxp_in, cmap_in)))))))))
+    (head_in, maxp_in, cmap_in))))))))
 
 -- ---- numbers
-
-abbrev Any : {T : Type 0} → T → Type 0
-Any x = Unit {0}
 
 numbers_in : (bytes : List ℕ) (directory : Directory) (tables : Tables) → AreLongTables bytes tables → IsReadIn bytes Any (sfnt_numbers bytes directory tables)
 numbers_in bytes directory tables (head, maxp, cmap) =

@@ -1,5 +1,5 @@
 -- The reading keeps the rules of the format one after another.
-use Rattle.std.proofs.Common.{◌≡◌, ℕ, ◌+◌, ◌*◌, ◌/◌, List, [], ◌∷◌, ◌++◌, length, Bool, true, false, cond, ◌&&◌, not, Option, Some, None, Result, Ok, Err, refl, ap, sym, ◌∙◌}
+use Rattle.std.proofs.Common.{◌≡◌, ℕ, ◌+◌, ◌*◌, ◌/◌, List, [], ◌∷◌, ◌++◌, length, Bool, true, false, cond, ◌&&◌, not, Option, Some, None, Result, Ok, Err, refl, ap, sym, subst, ◌∙◌}
 use Rattle.std.specs.Prelude.{nat_lt, ◌==◌, is_some, unwrap_or, option_map}
 use Rattle.std.specs.Option.{option_or}
 use Rattle.sfnt_font.specs.declared.cause.Tag.{Tag}
@@ -14,16 +14,21 @@ use Rattle.sfnt_font.specs.declared.maps.CharacterMap.{CharacterMap}
 use Rattle.sfnt_font.specs.declared.maps.Choice.{Choice}
 use Rattle.sfnt_font.specs.declared.numbers.Numbers.{Numbers}
 use Rattle.sfnt_font.specs.declared.segments.Segment.{Segment}
+use Rattle.sfnt_font.specs.declared.tables.Outlines.{Outlines}
+use Rattle.sfnt_font.specs.declared.tables.Outlines.TheVariants.{TrueTypeOutlines}
 use Rattle.sfnt_font.specs.declared.tables.Tables.{Tables}
+use Rattle.cff_font.specs.declared.cause.CffRefusal.{CffRefusal}
+use Rattle.cff_font.specs.declared.read.CffFont.{CffFont}
+use Rattle.cff_font.specs.Fonts.{cff_of}
 use Rattle.sfnt_font.specs.Answers.{then_read}
-use Rattle.sfnt_font.specs.Bytes.{u16_at, u32_at}
-use Rattle.sfnt_font.specs.Faces.{bad_face, collection_count, face_count, face_place, is_compressed, is_true_type, max_faces, open_kind, unless_misplaced}
-use Rattle.sfnt_font.specs.Directory.{directory_at, directory_end, is_post_script, least_size, name_of, needed_or, needed_table, table_end, table_named, tables_of, unless_short, metrics_name, post_name}
+use Rattle.font_bytes.specs.Bytes.{u16_at, u32_at}
+use Rattle.sfnt_font.specs.Faces.{bad_face, collection_count, face_count, face_place, is_compressed, is_face_kind, max_faces, unless_misplaced}
+use Rattle.sfnt_font.specs.Directory.{directory_at, cff_name, directory_end, is_second_version, least_size, name_of, outlines_by, outlines_of, outlines_read, true_type_outlines, needed_or, needed_table, table_end, table_named, table_span, tables_of, unless_short, metrics_name, post_name}
 use Rattle.sfnt_font.specs.Numbers.{made_numbers, sfnt_numbers}
 use Rattle.sfnt_font.specs.Maps.{chosen_map, groups_map, groups_of, map_of, no_rank, ranges_map, ranges_of, segments_of, whole_map}
 use Rattle.sfnt_font.specs.Fonts.{font_of, sfnt_of}
 use Rattle.sfnt_font.specs.Names.{font_names}
-use Rattle.sfnt_font.specs.Laws.{broken_if, first_broken, reading_fault, is_collection, face_rules, directory_rules, no_table, face_table, face_tables, needed_rules, table_rules, number_rules, best_choice, choice_rules, groups_rules, ranges_rules, map_rules, map_at, font_rules, face_directory, IsFirstBroken}
+use Rattle.sfnt_font.specs.Laws.{broken_if, first_broken, reading_fault, is_collection, face_rules, directory_rules, no_table, face_outlines, face_table, face_tables, needed_rules, outline_rules, outlines_or_none, read_rule, table_rules, number_rules, best_choice, choice_rules, groups_rules, ranges_rules, map_rules, map_at, font_rules, face_directory, IsFirstBroken}
 
 -- a value, unless a rule is broken
 abbrev unless_broken : {T : Type 0} → T → Option SfntRefusal → Result T SfntRefusal
@@ -74,7 +79,7 @@ faces_rules bytes = rule (is_compressed (u32_at bytes 0)) _ _ _ _ (rule (nat_lt 
 
 face_rules_at : (bytes : List ℕ) (at : ℕ) → Keeps (directory_at bytes at) (directory_rules bytes at) (face_directory bytes at)
 face_rules_at bytes at =
-    rule (u32_at bytes at == open_kind) _ _ _ _ (rule (not (is_true_type (u32_at bytes at))) _ _ _ _ (rule (nat_lt (length bytes) ((at + 12) + 16 * u16_at bytes (at + 4))) _ _ _ _ (none_broken (face_directory bytes at))))
+    rule (not (is_face_kind (u32_at bytes at))) _ _ _ _ (rule (nat_lt (length bytes) ((at + 12) + 16 * u16_at bytes (at + 4))) _ _ _ _ (none_broken (face_directory bytes at)))
 
 needed-step : (directory : Directory) (tag : Tag) (o : Option Table) → Keeps (needed_or (directory_end directory) tag o)
     (broken_if (not (is_some o)) (BadFont (directory_end directory) (NoTable tag)) ∷ broken_if (nat_lt (unwrap_or o no_table).size (least_size tag)) (BadFont (unwrap_or o no_table).place (ShortTable tag)) ∷ [])
@@ -85,17 +90,53 @@ needed-step directory tag (Some table) = record { is = (rule (nat_lt table.size 
 needed_keeps : (bytes : List ℕ) (directory : Directory) (tag : Tag) → Keeps (needed_table bytes directory tag) (needed_rules bytes directory tag) (face_table bytes directory tag)
 needed_keeps bytes directory tag = needed-step directory tag (table_named bytes directory (name_of tag))
 
+-- the outlines of a face
+abbrev face_true_type : List ℕ → Directory → Outlines
+face_true_type bytes directory = TrueTypeOutlines (face_table bytes directory Loca) (face_table bytes directory Glyf)
+
+read_keeps : (bytes : List ℕ) (directory : Directory) (r : Result CffFont CffRefusal) → Keeps (outlines_read r) (read_rule r ∷ []) (outlines_or_none bytes directory (outlines_read r))
+read_keeps bytes directory (Ok font) = record { is = refl }
+read_keeps bytes directory (Err refusal) = record { is = refl }
+
+true_type_is : (bytes : List ℕ) (directory : Directory) (o : Option SfntRefusal) → outlines_or_none bytes directory (unless_broken (face_true_type bytes directory) o) ≡ face_true_type bytes directory
+true_type_is bytes directory None = refl
+true_type_is bytes directory (Some refusal) = refl
+
+true_type_keeps : (bytes : List ℕ) (directory : Directory) →
+    Keeps (true_type_outlines bytes directory) (needed_rules bytes directory Loca ++ needed_rules bytes directory Glyf) (outlines_or_none bytes directory (true_type_outlines bytes directory))
+true_type_keeps bytes directory =
+    let rules = needed_rules bytes directory Loca ++ needed_rules bytes directory Glyf in
+    let kept : Keeps (true_type_outlines bytes directory) rules (face_true_type bytes directory) =
+    step (needed_table bytes directory Loca) (needed_rules bytes directory Loca) (face_table bytes directory Loca) _ _ _ (needed_keeps bytes directory Loca)
+    (step (needed_table bytes directory Glyf) (needed_rules bytes directory Glyf) (face_table bytes directory Glyf) _ [] _ (needed_keeps bytes directory Glyf)
+    (none_broken (face_true_type bytes directory))) in
+    let same : outlines_or_none bytes directory (true_type_outlines bytes directory) ≡ face_true_type bytes directory =
+    ap (outlines_or_none bytes directory) kept.is ∙ true_type_is bytes directory (first_broken rules) in
+    subst (Keeps (true_type_outlines bytes directory) rules) (sym same) kept
+
+outlines-step : (bytes : List ℕ) (directory : Directory) (glyf cff : Option Table) →
+    Keeps (outlines_by bytes directory glyf cff) (outline_rules bytes directory glyf cff) (outlines_or_none bytes directory (outlines_by bytes directory glyf cff))
+outlines-step bytes directory None (Some cff) = read_keeps bytes directory (cff_of bytes (table_span cff))
+outlines-step bytes directory None None = true_type_keeps bytes directory
+outlines-step bytes directory (Some glyf) None = true_type_keeps bytes directory
+outlines-step bytes directory (Some glyf) (Some cff) = true_type_keeps bytes directory
+
+abbrev outline_rules_of : List ℕ → Directory → List (Option SfntRefusal)
+outline_rules_of bytes directory = outline_rules bytes directory (table_named bytes directory (name_of Glyf)) (table_named bytes directory cff_name)
+
+outlines_keep : (bytes : List ℕ) (directory : Directory) → Keeps (outlines_of bytes directory) (outline_rules_of bytes directory) (face_outlines bytes directory)
+outlines_keep bytes directory = outlines-step bytes directory (table_named bytes directory (name_of Glyf)) (table_named bytes directory cff_name)
+
 tables_keep : (bytes : List ℕ) (directory : Directory) → Keeps (tables_of bytes directory) (table_rules bytes directory) (face_tables bytes directory)
 tables_keep bytes directory =
-    rule (is_post_script bytes directory) _ _ _ _
+    rule (is_second_version bytes directory) _ _ _ _
     (step (needed_table bytes directory Head) (needed_rules bytes directory Head) (face_table bytes directory Head) _ _ _ (needed_keeps bytes directory Head)
     (step (needed_table bytes directory Maxp) (needed_rules bytes directory Maxp) (face_table bytes directory Maxp) _ _ _ (needed_keeps bytes directory Maxp)
     (step (needed_table bytes directory Hhea) (needed_rules bytes directory Hhea) (face_table bytes directory Hhea) _ _ _ (needed_keeps bytes directory Hhea)
     (step (needed_table bytes directory Hmtx) (needed_rules bytes directory Hmtx) (face_table bytes directory Hmtx) _ _ _ (needed_keeps bytes directory Hmtx)
-    (step (needed_table bytes directory Loca) (needed_rules bytes directory Loca) (face_table bytes directory Loca) _ _ _ (needed_keeps bytes directory Loca)
-    (step (needed_table bytes directory Glyf) (needed_rules bytes directory Glyf) (face_table bytes directory Glyf) _ _ _ (needed_keeps bytes directory Glyf)
+    (step (outlines_of bytes directory) (outline_rules_of bytes directory) (face_outlines bytes directory) _ _ _ (outlines_keep bytes directory)
     (step (needed_table bytes directory Cmap) (needed_rules bytes directory Cmap) (face_table bytes directory Cmap) _ _ _ (needed_keeps bytes directory Cmap)
-    (none_broken (face_tables bytes directory)))))))))
+    (none_broken (face_tables bytes directory))))))))
 
 -- ---- numbers and the map
 

@@ -5,7 +5,7 @@ use Rattle.std.proofs.lemmas.Int.{ints}
 use Rattle.ass_num.specs.Floor.{floor_div}
 use Rattle.ass_num.specs.Limits.{IsWithin}
 use Rattle.ass_num.proofs.Floor.{floor_div_within}
-use Rattle.sfnt_font.specs.Bytes.{u8_at, u16_at}
+use Rattle.font_bytes.specs.Bytes.{u8_at, u16_at}
 use Rattle.sfnt_font.specs.Numbers.{bar_at, IsHeight, IsFontBar}
 
 pub u16_at-most : (bytes : List ℕ) → ((i : ℕ) → u8_at bytes i < 256) → (i : ℕ) → u16_at bytes i ≤ 65535

@@ -13,7 +13,7 @@ use Rattle.sfnt_font.specs.Directory.{directory_at, tables_of}
 use Rattle.sfnt_font.specs.Maps.{segments_of}
 use Rattle.sfnt_font.specs.Names.{font_names}
 use Rattle.sfnt_font.specs.Numbers.{sfnt_numbers}
-use Rattle.sfnt_font.specs.Bytes.{u32_at}
+use Rattle.font_bytes.specs.Bytes.{u32_at}
 use Rattle.sfnt_font.specs.Faces.{bad_face, collection_count, collection_kind, face_count, is_compressed, max_faces, unless_misplaced, face_place}
 use Rattle.sfnt_font.specs.Fonts.{directory_map, face_map, font_of, sfnt_of, sfnts_from, sfnts_of}
 use Rattle.sfnt_font.specs.Ranges.{IsSfntFont}

@@ -12,10 +12,14 @@ use Rattle.sfnt_font.specs.declared.maps.Choice.{Choice}
 use Rattle.sfnt_font.specs.declared.maps.CharacterMap.{CharacterMap}
 use Rattle.sfnt_font.specs.declared.maps.MapFormat.{MapFormat}
 use Rattle.sfnt_font.specs.declared.maps.MapFormat.TheVariants.{Ranges, Groups}
+use Rattle.sfnt_font.specs.declared.tables.Outlines.{Outlines}
 use Rattle.sfnt_font.specs.declared.tables.Tables.{Tables}
+use Rattle.cff_font.specs.declared.cause.CffRefusal.{CffRefusal}
+use Rattle.cff_font.specs.declared.read.CffFont.{CffFont}
+use Rattle.cff_font.specs.Fonts.{cff_of}
 use Rattle.sfnt_font.specs.Answers.{then_read}
 use Rattle.sfnt_font.specs.Faces.{collection_count, face_count, face_place, unless_misplaced}
-use Rattle.sfnt_font.specs.Directory.{directory_at, is_post_script, name_of, needed_or, needed_table, directory_end, table_named, tables_of}
+use Rattle.sfnt_font.specs.Directory.{directory_at, cff_name, is_second_version, name_of, needed_or, needed_table, directory_end, outlines_by, outlines_of, outlines_read, table_named, table_span, tables_of, true_type_outlines}
 use Rattle.sfnt_font.specs.Numbers.{sfnt_numbers}
 use Rattle.sfnt_font.specs.Maps.{chosen_map, codes_to, map_of, segment_at, segment_in, segments_from, segments_of, whole_map}
 use Rattle.sfnt_font.specs.Fonts.{directory_map, face_map, font_of, sfnt_of}
@@ -67,16 +71,31 @@ needed_read end tag (Some table) = search (either, bad, got) depth 12
 table_read : (bytes : List ℕ) (directory : Directory) (tag : Tag) → IsRead (needed_table bytes directory tag)
 table_read bytes directory tag = needed_read (directory_end directory) tag (table_named bytes directory (name_of tag))
 
+cff_read : (r : Result CffFont CffRefusal) → IsRead (outlines_read r)
+cff_read (Ok font) = got _
+cff_read (Err refusal) = bad _ _
+
+true_type_read : (bytes : List ℕ) (directory : Directory) → IsRead (true_type_outlines bytes directory)
+true_type_read bytes directory = behind _ _ (table_read bytes directory Loca) (λ loca. behind _ _ (table_read bytes directory Glyf) (λ glyf. got _))
+
+outlines_by_read : (bytes : List ℕ) (directory : Directory) (glyf cff : Option Table) → IsRead (outlines_by bytes directory glyf cff)
+outlines_by_read bytes directory None (Some cff) = cff_read (cff_of bytes (table_span cff))
+outlines_by_read bytes directory None None = true_type_read bytes directory
+outlines_by_read bytes directory (Some glyf) None = true_type_read bytes directory
+outlines_by_read bytes directory (Some glyf) (Some cff) = true_type_read bytes directory
+
+outlines_of_read : (bytes : List ℕ) (directory : Directory) → IsRead (outlines_of bytes directory)
+outlines_of_read bytes directory = outlines_by_read bytes directory (table_named bytes directory (name_of Glyf)) (table_named bytes directory cff_name)
+
 tables_read : (bytes : List ℕ) (directory : Directory) → IsRead (tables_of bytes directory)
 tables_read bytes directory =
-    either (is_post_script bytes directory) _ _ (bad _ _)
+    either (is_second_version bytes directory) _ _ (bad _ _)
     (behind _ _ (table_read bytes directory Head) (λ head.
     behind _ _ (table_read bytes directory Maxp) (λ maxp.
     behind _ _ (table_read bytes directory Hhea) (λ hhea.
     behind _ _ (table_read bytes directory Hmtx) (λ hmtx.
-    behind _ _ (table_read bytes directory Loca) (λ loca.
-    behind _ _ (table_read bytes directory Glyf) (λ glyf.
-    behind _ _ (table_read bytes directory Cmap) (λ cmap. got _))))))))
+    behind _ _ (outlines_of_read bytes directory) (λ outlines.
+    behind _ _ (table_read bytes directory Cmap) (λ cmap. got _)))))))
 
 numbers_read : (bytes : List ℕ) (directory : Directory) (tables : Tables) → IsRead (sfnt_numbers bytes directory tables)
 numbers_read bytes directory tables = search (either, bad, got) depth 12

@@ -6,7 +6,7 @@ use Rattle.std.proofs.lemmas.List.{append_assoc, length-append}
 use Rattle.std.proofs.lemmas.List.FromFn.{map-range_with_len_more}
 use Rattle.sfnt_font.specs.declared.directory.Table.{Table}
 use Rattle.sfnt_font.specs.declared.maps.Choice.{Choice}
-use Rattle.sfnt_font.specs.Bytes.{u32_at}
+use Rattle.font_bytes.specs.Bytes.{u32_at}
 use Rattle.sfnt_font.specs.Faces.{bad_face}
 use Rattle.sfnt_font.specs.Directory.{is_table, table_at, table_from}
 use Rattle.sfnt_font.specs.Maps.{best_map, better, choice_at}

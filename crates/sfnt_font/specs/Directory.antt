@@ -2,15 +2,22 @@
 use Rattle.std.specs.Prelude.{ℕ, zero, suc, ◌+◌, ◌*◌, ◌<◌, ◌≤◌, ◌^◌, Bool, ◌&&◌, ◌||◌, not, ◌==◌, nat_lt, nat_le, if◌then◌else◌, List, length, Option, Some, None, is_some, Result, Ok, Err}
 use Rattle.sfnt_font.specs.declared.cause.Tag.{Tag}
 use Rattle.sfnt_font.specs.declared.cause.Tag.TheVariants.{Head, Maxp, Hhea, Hmtx, Loca, Glyf, Cmap}
-use Rattle.sfnt_font.specs.declared.cause.SfntCause.TheVariants.{Ends, PostScript, NotSfnt, NoTable, ShortTable}
+use Rattle.sfnt_font.specs.declared.cause.SfntCause.TheVariants.{Ends, PostScript, BadOutlines, NotSfnt, NoTable, ShortTable}
 use Rattle.sfnt_font.specs.declared.cause.SfntRefusal.{SfntRefusal}
 use Rattle.sfnt_font.specs.declared.cause.SfntRefusal.TheVariants.{BadFont}
 use Rattle.sfnt_font.specs.declared.directory.Directory.{Directory}
 use Rattle.sfnt_font.specs.declared.directory.Table.{Table}
+use Rattle.sfnt_font.specs.declared.tables.Outlines.{Outlines}
+use Rattle.sfnt_font.specs.declared.tables.Outlines.TheVariants.{TrueTypeOutlines, PostScriptOutlines}
 use Rattle.sfnt_font.specs.declared.tables.Tables.{Tables}
+use Rattle.cff_font.specs.declared.cause.CffRefusal.{CffRefusal}
+use Rattle.cff_font.specs.declared.read.CffFont.{CffFont}
+use Rattle.cff_font.specs.declared.tokens.Span.{Span}
+use Rattle.cff_font.specs.Fonts.{cff_of}
+use Rattle.cff_font.specs.Ranges.{IsCffFont}
 use Rattle.sfnt_font.specs.Answers.{then_read}
-use Rattle.sfnt_font.specs.Bytes.{u16_at, u32_at}
-use Rattle.sfnt_font.specs.Faces.{open_kind, is_true_type}
+use Rattle.font_bytes.specs.Bytes.{u16_at, u32_at}
+use Rattle.sfnt_font.specs.Faces.{is_face_kind}
 
 -- the byte behind a directory
 abbrev pub directory_end : Directory → ℕ
@@ -25,8 +32,7 @@ whole_directory bytes first n =
 -- the directory of the face at a place
 abbrev pub directory_at : List ℕ → ℕ → Result Directory SfntRefusal
 directory_at bytes at =
-    if u32_at bytes at == open_kind then Err (BadFont at PostScript)
-    else if not (is_true_type (u32_at bytes at)) then Err (BadFont at NotSfnt)
+    if not (is_face_kind (u32_at bytes at)) then Err (BadFont at NotSfnt)
     else whole_directory bytes (at + 12) (u16_at bytes (at + 4))
 
 -- the table that an entry names
@@ -36,6 +42,10 @@ table_at bytes entry = record { place = u32_at bytes (entry + 8); size = u32_at 
 -- the byte behind a table
 abbrev pub table_end : Table → ℕ
 table_end table = table.place + table.size
+
+-- the bytes of a table
+abbrev pub table_span : Table → Span
+table_span table = record { from = table.place; to = table_end table }
 
 -- whether an entry has this name, and all bytes of its table lie in the file
 abbrev pub is_table : List ℕ → ℕ → ℕ → Bool
@@ -97,24 +107,47 @@ needed_or end tag (Some table) = if nat_lt table.size (least_size tag) then Err 
 abbrev pub needed_table : List ℕ → Directory → Tag → Result Table SfntRefusal
 needed_table bytes directory tag = needed_or (directory_end directory) tag (table_named bytes directory (name_of tag))
 
--- whether a face has PostScript outlines alone
+-- ---- the outlines of a face: those of `glyf`, or where there is none those of `CFF `
+
+-- the outlines that a table of PostScript outlines was read as
+abbrev pub outlines_read : Result CffFont CffRefusal → Result Outlines SfntRefusal
+outlines_read (Ok font) = Ok (PostScriptOutlines font)
+outlines_read (Err refusal) = Err (BadFont refusal.place (BadOutlines refusal.cause))
+
+abbrev pub post_script_outlines : List ℕ → Table → Result Outlines SfntRefusal
+post_script_outlines bytes table = outlines_read (cff_of bytes (table_span table))
+
+abbrev pub true_type_outlines : List ℕ → Directory → Result Outlines SfntRefusal
+true_type_outlines bytes directory =
+    then_read (needed_table bytes directory Loca) (λ loca. then_read (needed_table bytes directory Glyf) (λ glyf. Ok (TrueTypeOutlines loca glyf)))
+
+abbrev pub outlines_by : List ℕ → Directory → Option Table → Option Table → Result Outlines SfntRefusal
+outlines_by bytes directory None (Some cff) = post_script_outlines bytes cff
+outlines_by bytes directory glyf cff = true_type_outlines bytes directory
+
+abbrev pub outlines_of : List ℕ → Directory → Result Outlines SfntRefusal
+outlines_of bytes directory = outlines_by bytes directory (table_named bytes directory (name_of Glyf)) (table_named bytes directory cff_name)
+
+-- whether a face has PostScript outlines
 abbrev pub is_post_script : List ℕ → Directory → Bool
-is_post_script bytes directory =
-    not (is_some (table_named bytes directory (name_of Glyf)))
-    && (is_some (table_named bytes directory cff_name) || is_some (table_named bytes directory cff2_name))
+is_post_script bytes directory = not (is_some (table_named bytes directory (name_of Glyf))) && is_some (table_named bytes directory cff_name)
+
+-- whether it has those of the second version alone, which aren't read
+abbrev pub is_second_version : List ℕ → Directory → Bool
+is_second_version bytes directory =
+    not (is_some (table_named bytes directory (name_of Glyf))) && not (is_some (table_named bytes directory cff_name)) && is_some (table_named bytes directory cff2_name)
 
 -- the tables that are needed, in this order
 abbrev pub tables_of : List ℕ → Directory → Result Tables SfntRefusal
 tables_of bytes directory =
-    if is_post_script bytes directory then Err (BadFont (directory_end directory) PostScript)
+    if is_second_version bytes directory then Err (BadFont (directory_end directory) PostScript)
     else then_read (needed_table bytes directory Head) (λ head.
     then_read (needed_table bytes directory Maxp) (λ maxp.
     then_read (needed_table bytes directory Hhea) (λ hhea.
     then_read (needed_table bytes directory Hmtx) (λ hmtx.
-    then_read (needed_table bytes directory Loca) (λ loca.
-    then_read (needed_table bytes directory Glyf) (λ glyf.
+    then_read (outlines_of bytes directory) (λ outlines.
     then_read (needed_table bytes directory Cmap) (λ cmap.
-    Ok (record { head = head; maxp = maxp; hhea = hhea; hmtx = hmtx; loca = loca; glyf = glyf; cmap = cmap }))))))))
+    Ok (record { head = head; maxp = maxp; hhea = hhea; hmtx = hmtx; outlines = outlines; cmap = cmap })))))))
 
 -- A directory whose entries may be read. This is a condition of calls.
 abbrev pub IsDirectory : Directory → Type 0
@@ -124,12 +157,16 @@ IsDirectory directory = (directory.first < 2 ^ 33) × (directory.count < 2 ^ 16)
 abbrev pub IsTableIn : List ℕ → Table → Type 0
 IsTableIn bytes table = table_end table ≤ length bytes
 
+-- What outlines are drawn from does.
+abbrev pub AreOutlinesIn : List ℕ → Outlines → Type 0
+AreOutlinesIn bytes (TrueTypeOutlines loca glyf) = IsTableIn bytes loca × IsTableIn bytes glyf
+AreOutlinesIn bytes (PostScriptOutlines font) = IsCffFont font
+
 -- All tables do.
 pub record AreTablesIn (bytes : List ℕ) (tables : Tables) : Type 0 where
   pub head : IsTableIn bytes tables.head
   pub maxp : IsTableIn bytes tables.maxp
   pub hhea : IsTableIn bytes tables.hhea
   pub hmtx : IsTableIn bytes tables.hmtx
-  pub loca : IsTableIn bytes tables.loca
-  pub glyf : IsTableIn bytes tables.glyf
+  pub outlines : AreOutlinesIn bytes tables.outlines
   pub cmap : IsTableIn bytes tables.cmap

@@ -3,7 +3,7 @@ use Rattle.std.specs.Prelude.{ℕ, zero, suc, ◌+◌, ◌*◌, Bool, ◌||◌, 
 use Rattle.sfnt_font.specs.declared.cause.SfntCause.TheVariants.{Compressed, Ends, BadPlace}
 use Rattle.sfnt_font.specs.declared.cause.SfntRefusal.{SfntRefusal}
 use Rattle.sfnt_font.specs.declared.cause.SfntRefusal.TheVariants.{BadFont, TooLarge}
-use Rattle.sfnt_font.specs.Bytes.{u32_at}
+use Rattle.font_bytes.specs.Bytes.{u32_at}
 
 -- the first four bytes of a TrueType font: 00 01 00 00, or "true"
 abbrev pub version_1 : ℕ
@@ -34,13 +34,13 @@ max_faces = 64
 abbrev pub is_compressed : ℕ → Bool
 is_compressed kind = (kind == woff_kind) || (kind == woff2_kind)
 
--- whether a face begins so
-abbrev pub is_true_type : ℕ → Bool
-is_true_type kind = (kind == version_1) || (kind == true_kind)
+-- whether a face begins so, with TrueType outlines or PostScript ones
+abbrev pub is_face_kind : ℕ → Bool
+is_face_kind kind = (kind == version_1) || ((kind == true_kind) || (kind == open_kind))
 
 -- whether a file that begins so is read as a TrueType font, or else refused as one
 abbrev pub is_sfnt_kind : ℕ → Bool
-is_sfnt_kind kind = is_true_type kind || (kind == open_kind) || (kind == collection_kind) || is_compressed kind
+is_sfnt_kind kind = is_face_kind kind || (kind == collection_kind) || is_compressed kind
 
 -- the first of n faces, whose places stand from `at` on, that doesn't have 12 bytes in the file
 abbrev pub bad_face : List ℕ → ℕ → ℕ → Option ℕ

@@ -3,7 +3,7 @@ use Rattle.std.specs.Prelude.{◌≡◌, ℕ, ◌+◌, ◌*◌, ◌/◌, ◌<◌
 use Rattle.std.specs.Option.{option_or}
 use Rattle.sfnt_font.specs.declared.cause.Tag.{Tag}
 use Rattle.sfnt_font.specs.declared.cause.Tag.TheVariants.{Head, Maxp, Hhea, Hmtx, Loca, Glyf, Cmap}
-use Rattle.sfnt_font.specs.declared.cause.SfntCause.TheVariants.{Compressed, Ends, BadPlace, PostScript, NotSfnt, NoTable, ShortTable, BadNumber, NoMap, BadMap}
+use Rattle.sfnt_font.specs.declared.cause.SfntCause.TheVariants.{Compressed, Ends, BadPlace, PostScript, BadOutlines, NotSfnt, NoTable, ShortTable, BadNumber, NoMap, BadMap}
 use Rattle.sfnt_font.specs.declared.cause.SfntRefusal.{SfntRefusal}
 use Rattle.sfnt_font.specs.declared.cause.SfntRefusal.TheVariants.{BadFont, TooLarge, OutOfMemory}
 use Rattle.sfnt_font.specs.declared.directory.Directory.{Directory}
@@ -11,9 +11,14 @@ use Rattle.sfnt_font.specs.declared.directory.Table.{Table}
 use Rattle.sfnt_font.specs.declared.maps.CharacterMap.{CharacterMap}
 use Rattle.sfnt_font.specs.declared.maps.Choice.{Choice}
 use Rattle.sfnt_font.specs.declared.tables.Tables.{Tables}
-use Rattle.sfnt_font.specs.Bytes.{u16_at, u32_at}
-use Rattle.sfnt_font.specs.Faces.{max_faces, bad_face, collection_kind, face_count, face_place, is_compressed, is_true_type, open_kind}
-use Rattle.sfnt_font.specs.Directory.{directory_end, is_post_script, least_size, name_of, table_end, table_named}
+use Rattle.font_bytes.specs.Bytes.{u16_at, u32_at}
+use Rattle.sfnt_font.specs.Faces.{max_faces, bad_face, collection_kind, face_count, face_place, is_compressed, is_face_kind}
+use Rattle.sfnt_font.specs.declared.tables.Outlines.{Outlines}
+use Rattle.sfnt_font.specs.declared.tables.Outlines.TheVariants.{TrueTypeOutlines}
+use Rattle.cff_font.specs.declared.cause.CffRefusal.{CffRefusal}
+use Rattle.cff_font.specs.declared.read.CffFont.{CffFont}
+use Rattle.cff_font.specs.Fonts.{cff_of}
+use Rattle.sfnt_font.specs.Directory.{cff_name, directory_end, is_second_version, least_size, name_of, outlines_of, table_end, table_named, table_span}
 use Rattle.sfnt_font.specs.Maps.{best_map, no_choice, no_rank, groups_of, ranges_of, segments_of}
 use Rattle.sfnt_font.specs.Fonts.{sfnt_of}
 
@@ -61,8 +66,7 @@ face_rules bytes =
 -- those of the face at a place, and of its directory
 abbrev pub directory_rules : List ℕ → ℕ → List (Option SfntRefusal)
 directory_rules bytes at =
-    broken_if (u32_at bytes at == open_kind) (BadFont at PostScript)
-    ∷ broken_if (not (is_true_type (u32_at bytes at))) (BadFont at NotSfnt)
+    broken_if (not (is_face_kind (u32_at bytes at))) (BadFont at NotSfnt)
     ∷ broken_if (nat_lt (length bytes) ((at + 12) + 16 * u16_at bytes (at + 4))) (BadFont (length bytes) Ends)
     ∷ []
 
@@ -73,14 +77,21 @@ no_table = record { place = 0; size = 0 }
 abbrev pub face_table : List ℕ → Directory → Tag → Table
 face_table bytes directory tag = unwrap_or (table_named bytes directory (name_of tag)) no_table
 
+-- what the outlines of a face are drawn from; the tables of `glyf` where there is a fault
+abbrev pub outlines_or_none : List ℕ → Directory → Result Outlines SfntRefusal → Outlines
+outlines_or_none bytes directory (Ok outlines) = outlines
+outlines_or_none bytes directory (Err refusal) = TrueTypeOutlines (face_table bytes directory Loca) (face_table bytes directory Glyf)
+
+abbrev pub face_outlines : List ℕ → Directory → Outlines
+face_outlines bytes directory = outlines_or_none bytes directory (outlines_of bytes directory)
+
 abbrev pub face_tables : List ℕ → Directory → Tables
 face_tables bytes directory = record {
   head = face_table bytes directory Head;
   maxp = face_table bytes directory Maxp;
   hhea = face_table bytes directory Hhea;
   hmtx = face_table bytes directory Hmtx;
-  loca = face_table bytes directory Loca;
-  glyf = face_table bytes directory Glyf;
+  outlines = face_outlines bytes directory;
   cmap = face_table bytes directory Cmap;
 }
 
@@ -91,11 +102,20 @@ needed_rules bytes directory tag =
     ∷ broken_if (nat_lt (face_table bytes directory tag).size (least_size tag)) (BadFont (face_table bytes directory tag).place (ShortTable tag))
     ∷ []
 
+-- the rules of a face's outlines
+abbrev pub read_rule : Result CffFont CffRefusal → Option SfntRefusal
+read_rule (Ok font) = None
+read_rule (Err refusal) = Some (BadFont refusal.place (BadOutlines refusal.cause))
+
+abbrev pub outline_rules : List ℕ → Directory → Option Table → Option Table → List (Option SfntRefusal)
+outline_rules bytes directory None (Some cff) = read_rule (cff_of bytes (table_span cff)) ∷ []
+outline_rules bytes directory glyf cff = needed_rules bytes directory Loca ++ needed_rules bytes directory Glyf
+
 abbrev pub table_rules : List ℕ → Directory → List (Option SfntRefusal)
 table_rules bytes directory =
-    broken_if (is_post_script bytes directory) (BadFont (directory_end directory) PostScript)
+    broken_if (is_second_version bytes directory) (BadFont (directory_end directory) PostScript)
     ∷ (needed_rules bytes directory Head ++ (needed_rules bytes directory Maxp ++ (needed_rules bytes directory Hhea ++ (needed_rules bytes directory Hmtx
-    ++ (needed_rules bytes directory Loca ++ (needed_rules bytes directory Glyf ++ (needed_rules bytes directory Cmap ++ [])))))))
+    ++ (outline_rules bytes directory (table_named bytes directory (name_of Glyf)) (table_named bytes directory cff_name) ++ (needed_rules bytes directory Cmap ++ []))))))
 
 -- those of the numbers
 abbrev pub number_rules : List ℕ → Tables → List (Option SfntRefusal)

@@ -1,4 +1,3 @@
-pub mod Bytes
 pub mod Answers
 pub mod Faces
 pub mod Directory

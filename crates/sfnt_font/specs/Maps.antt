@@ -11,7 +11,7 @@ use Rattle.sfnt_font.specs.declared.maps.MapFormat.TheVariants.{Ranges, Groups}
 use Rattle.sfnt_font.specs.declared.maps.CharacterMap.{CharacterMap}
 use Rattle.sfnt_font.specs.declared.segments.Segment.{Segment}
 use Rattle.sfnt_font.specs.Answers.{then_read}
-use Rattle.sfnt_font.specs.Bytes.{u16_at, u32_at}
+use Rattle.font_bytes.specs.Bytes.{u16_at, u32_at}
 use Rattle.sfnt_font.specs.Directory.{table_end}
 
 -- the last code of a character

@@ -6,8 +6,8 @@ use Rattle.std.specs.Str.{encode_utf8_all}
 use Rattle.sfnt_font.specs.declared.directory.Directory.{Directory}
 use Rattle.sfnt_font.specs.declared.directory.Table.{Table}
 use Rattle.sfnt_font.specs.declared.names.FontNames.{FontNames}
-use Rattle.sfnt_font.specs.Bytes.{u8_at, u16_at}
-use Rattle.sfnt_font.specs.Directory.{table_end, table_named, unless_short}
+use Rattle.font_bytes.specs.Bytes.{u8_at, u16_at}
+use Rattle.sfnt_font.specs.Directory.{is_post_script, table_end, table_named, unless_short}
 
 -- "name", and its least bytes
 abbrev pub names_name : ℕ
@@ -24,6 +24,13 @@ family_kind = 1
 
 abbrev pub full_kind : ℕ
 full_kind = 4
+
+-- that of a PostScript name, which is the full name of a font with PostScript outlines
+abbrev pub post_script_kind : ℕ
+post_script_kind = 6
+
+abbrev pub whole_kind : Bool → ℕ
+whole_kind is_post_script = if is_post_script then post_script_kind else full_kind
 
 -- the rank of a name's platform and encoding: Windows; Unicode, or Mac Roman; none
 abbrev pub name_rank : ℕ → ℕ → ℕ
@@ -118,23 +125,24 @@ abbrev pub unless_empty : List (List ℕ) → List (List ℕ) → List (List ℕ
 unless_empty [] others = others
 unless_empty (name ∷ names) others = name ∷ names
 
--- The names that a table gives. The families are those of Windows, or else the first of the others; the full names are those of Windows alone.
-abbrev pub table_names : List ℕ → Table → FontNames
-table_names bytes names = record {
-  families = unless_empty (ranked_names bytes names family_kind 0 max_names) (ranked_names bytes names family_kind 1 1);
-  full_names = ranked_names bytes names full_kind 0 max_names;
-}
+-- The families that a table gives: those of Windows, or else the first of the others.
+abbrev pub table_families : List ℕ → Table → List (List ℕ)
+table_families bytes names = unless_empty (ranked_names bytes names family_kind 0 max_names) (ranked_names bytes names family_kind 1 1)
+
+-- The names that a table gives. The full names, or the PostScript ones, are those of Windows alone.
+abbrev pub table_names : List ℕ → Bool → Table → FontNames
+table_names bytes is_post_script names = record { families = table_families bytes names; full_names = ranked_names bytes names (whole_kind is_post_script) 0 max_names }
 
 abbrev pub no_names : FontNames
 no_names = record { families = []; full_names = [] }
 
-abbrev pub names_or_none : List ℕ → Option Table → FontNames
-names_or_none bytes None = no_names
-names_or_none bytes (Some names) = table_names bytes names
+abbrev pub names_or_none : List ℕ → Bool → Option Table → FontNames
+names_or_none bytes is_post_script None = no_names
+names_or_none bytes is_post_script (Some names) = table_names bytes is_post_script names
 
 -- the names of a font, in UTF-8
 abbrev pub font_names : List ℕ → Directory → FontNames
-font_names bytes directory = names_or_none bytes (unless_short least_names (table_named bytes directory names_name))
+font_names bytes directory = names_or_none bytes (is_post_script bytes directory) (unless_short least_names (table_named bytes directory names_name))
 
 -- the name that a font is told by: that of its first family; empty where it has none
 abbrev pub first_name : List (List ℕ) → List ℕ

@@ -14,7 +14,7 @@ use Rattle.sfnt_font.specs.declared.tables.Tables.{Tables}
 use Rattle.sfnt_font.specs.declared.numbers.Bar.{Bar}
 use Rattle.sfnt_font.specs.declared.numbers.Heights.{Heights}
 use Rattle.sfnt_font.specs.declared.numbers.Numbers.{Numbers}
-use Rattle.sfnt_font.specs.Bytes.{u16_at, s16_at}
+use Rattle.font_bytes.specs.Bytes.{u16_at, s16_at}
 use Rattle.sfnt_font.specs.Directory.{table_named, unless_short, metrics_name, post_name}
 
 -- the heights, or others where these sum to 0

@@ -3,7 +3,7 @@ use Rattle.std.specs.Prelude.{◌≡◌, ℕ, ◌+◌, ◌<◌, ◌≤◌, Bool,
 use Rattle.ass_num.specs.Limits.{max_file_bytes}
 use Rattle.sfnt_font.specs.declared.font.SfntFont.{SfntFont}
 use Rattle.sfnt_font.specs.declared.segments.Segment.{Segment}
-use Rattle.sfnt_font.specs.Bytes.{u8_at}
+use Rattle.font_bytes.specs.Bytes.{u8_at}
 use Rattle.sfnt_font.specs.Directory.{AreTablesIn}
 use Rattle.sfnt_font.specs.Numbers.{AreFontNumbers}
 use Rattle.sfnt_font.specs.Maps.{IsMapIn, max_code, codes_to}

@@ -4,6 +4,7 @@ ghost use Rattle.std.specs.Prelude.{◌≡◌};
 ghost use Rattle.sfnt_font.specs.declared.cause.SfntRefusal.TheVariants.{OutOfMemory as memory_refusal};
 
 use ass_num::OutOfMemory;
+use cff_font::CffCause;
 
 /// The tables that each font needs.
 #[derive(Clone, Copy, Debug, PartialEq, Eq)]
@@ -33,9 +34,11 @@ pub enum SfntCause {
     Ends,
     /// A collection has no face, or a face's place doesn't lie in the file.
     BadPlace,
-    /// The outlines are those of PostScript.
+    /// The outlines are those of PostScript's second version.
     PostScript,
-    /// The first bytes of a face aren't those of a TrueType font.
+    /// The table of PostScript outlines isn't one.
+    BadOutlines(CffCause),
+    /// The first bytes of a face aren't those of a font.
     NotSfnt,
     /// A table is missing that is needed.
     NoTable(Tag),

@@ -5,8 +5,8 @@ ghost use Rattle.ass_num.specs.Limits.{max_file_bytes};
 ghost use Rattle.sfnt_font.specs.Maps.{max_code, IsMapIn};
 ghost use Rattle.sfnt_font.specs.Fonts.{shifted_glyph, listed_glyph, glyph_by_offset, glyph_in_group, segment_glyph, held_glyph};
 
-use crate::bytes::{u16_at, u32_at};
 use crate::maps::{CharacterMap, MapFormat};
+use font_bytes::{u16_at, u32_at};
 
 fn shifted_glyph(shift: u16, glyph: u16) -> u64
     ensures { result ≡ shifted_glyph shift glyph }

@@ -1,13 +1,14 @@
 //! The directory of a face, and the tables that it names.
 
 ghost use Rattle.std.specs.Prelude.{◌≡◌, ◌<◌, ◌^◌, length, IfOk, IfSome};
-ghost use Rattle.sfnt_font.specs.Bytes.{u16_at, u32_at};
-ghost use Rattle.sfnt_font.specs.Directory.{whole_directory, directory_at, directory_end, table_end, table_at};
+ghost use Rattle.font_bytes.specs.Bytes.{u16_at, u32_at};
+ghost use Rattle.sfnt_font.specs.Directory.{whole_directory, directory_at, directory_end, table_end, table_span, table_at};
 ghost use Rattle.sfnt_font.specs.Directory.{is_table, table_named, unless_short, IsDirectory, IsTableIn};
 
-use crate::bytes::{u16_at, u32_at};
 use crate::cause::{SfntCause, SfntRefusal};
-use crate::faces::{OPEN, is_true_type};
+use crate::faces::is_face_kind;
+use cff_font::Span;
+use font_bytes::{u16_at, u32_at};
 
 /// Where the entries of a directory begin, and how many there are.
 #[derive(Clone, Copy)]
@@ -34,6 +35,17 @@ impl Directory {
 }
 
 impl Table {
+    /// The bytes of the table.
+    pub fn span(&self) -> Span
+        requires { table_end self.now < 2 ^ 40 }
+        ensures { result ≡ table_span self.now }
+    {
+        Span {
+            from: self.place,
+            to: self.end(),
+        }
+    }
+
     /// The byte behind the table.
     pub fn end(&self) -> usize
         requires { table_end self.now < 2 ^ 40 }
@@ -62,10 +74,7 @@ pub fn directory_at(bytes: &[u8], at: usize) -> Result<Directory, SfntRefusal>
     ensures places { IfOk result IsDirectory }
 {
     let kind = u32_at(bytes, at);
-    if kind == OPEN {
-        return Err(SfntRefusal::BadFont(at, SfntCause::PostScript));
-    }
-    if !is_true_type(kind) {
+    if !is_face_kind(kind) {
         return Err(SfntRefusal::BadFont(at, SfntCause::NotSfnt));
     }
     whole_directory(bytes, at + 12, usize::from(u16_at(bytes, at + 4)))

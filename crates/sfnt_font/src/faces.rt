@@ -1,11 +1,11 @@
 //! Which files are read, and where their faces are.
 
 ghost use Rattle.std.specs.Prelude.{◌≡◌, ◌<◌, ◌≤◌, ◌^◌};
-ghost use Rattle.sfnt_font.specs.Bytes.{u32_at};
-ghost use Rattle.sfnt_font.specs.Faces.{is_compressed, is_true_type, is_sfnt_kind, max_faces, bad_face, collection_count, face_count, face_place};
+ghost use Rattle.font_bytes.specs.Bytes.{u32_at};
+ghost use Rattle.sfnt_font.specs.Faces.{is_compressed, is_face_kind, is_sfnt_kind, max_faces, bad_face, collection_count, face_count, face_place};
 
-use crate::bytes::u32_at;
 use crate::cause::{SfntCause, SfntRefusal};
+use font_bytes::u32_at;
 
 /// 00 01 00 00
 const VERSION_1: u32 = 65_536;
@@ -14,7 +14,7 @@ const VERSION_1: u32 = 65_536;
 const TRUE: u32 = 1_953_658_213;
 
 /// "OTTO"
-pub const OPEN: u32 = 1_330_926_671;
+const OPEN: u32 = 1_330_926_671;
 
 /// "ttcf"
 const COLLECTION: u32 = 1_953_784_678;
@@ -34,11 +34,11 @@ fn is_compressed(kind: u32) -> bool
     kind == WOFF || kind == WOFF_2
 }
 
-/// Whether a face that begins so has TrueType outlines.
-pub fn is_true_type(kind: u32) -> bool
-    ensures { result ≡ is_true_type kind }
+/// Whether a face begins so: with TrueType outlines or PostScript ones.
+pub fn is_face_kind(kind: u32) -> bool
+    ensures { result ≡ is_face_kind kind }
 {
-    kind == VERSION_1 || kind == TRUE
+    kind == VERSION_1 || kind == TRUE || kind == OPEN
 }
 
 /// Whether a file is read as a TrueType font, by its first four bytes. A file that isn't is none.
@@ -46,7 +46,7 @@ pub fn is_sfnt(bytes: &[u8]) -> bool
     ensures { result ≡ is_sfnt_kind (u32_at bytes.now 0) }
 {
     let kind = u32_at(bytes, 0);
-    is_true_type(kind) || kind == OPEN || kind == COLLECTION || is_compressed(kind)
+    is_face_kind(kind) || kind == COLLECTION || is_compressed(kind)
 }
 
 /// The first of n faces, whose places stand from `at` on, that doesn't have 12 bytes in the file.

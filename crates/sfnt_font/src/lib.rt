@@ -1,7 +1,6 @@
-//! TrueType fonts: where the numbers of a font lie in the bytes of its file, or the first fault of a file that has none.
+//! Fonts of outlines: where the numbers of a font lie in the bytes of its file, or the first fault of a file that has none.
 #![tactic(auto)]
 
-mod bytes;
 mod cause;
 mod characters;
 mod codes;
@@ -17,7 +16,6 @@ mod read;
 mod segments;
 mod tables;
 
-pub use bytes::{s8_at, s16_at, u8_at, u16_at, u32_at};
 pub use cause::{SfntCause, SfntRefusal, Tag};
 pub use directory::Table;
 pub use faces::{face_count, is_sfnt};
@@ -27,4 +25,4 @@ pub use laws::{first_fault, one_answer};
 pub use names::FontNames;
 pub use numbers::{Bar, Numbers};
 pub use read::{read_faces, read_sfnt};
-pub use tables::Tables;
+pub use tables::{Outlines, Tables};

@@ -7,9 +7,9 @@ ghost use Rattle.sfnt_font.specs.Maps.{windows_rank, unicode_rank, map_rank, is_
 ghost use Rattle.sfnt_font.specs.Maps.{whole_map, map_of, no_choice, last_code_place, first_code_place};
 ghost use Rattle.sfnt_font.specs.Maps.{shift_place, offset_place, group_place, IsSmallMap, IsMapIn};
 
-use crate::bytes::{u16_at, u32_at};
 use crate::cause::{SfntCause, SfntRefusal};
 use crate::directory::Table;
+use font_bytes::{u16_at, u32_at};
 
 /// What a record whose map isn't read is ranked.
 const NO_RANK: u8 = 9;

@@ -4,11 +4,12 @@ ghost use Rattle.std.specs.Prelude.{◌≡◌, ◌<◌, ◌≤◌, ◌^◌, leng
 ghost use Rattle.ass_num.specs.Limits.{max_file_bytes};
 ghost use Rattle.sfnt_font.specs.Directory.{IsDirectory, IsTableIn};
 ghost use Rattle.sfnt_font.specs.Names.{name_rank, text_place, is_whole_name, is_name, mac_character};
-ghost use Rattle.sfnt_font.specs.Names.{narrow_units, wide_units, name_units, spelled, record_name, ranked_names, table_names, font_names, first_name};
+ghost use Rattle.sfnt_font.specs.Names.{narrow_units, wide_units, name_units, spelled, record_name, ranked_names, whole_kind, table_families, table_names, font_names, first_name};
 
-use crate::bytes::{u8_at, u16_at};
 use crate::directory::{Directory, Table, long_table};
+use crate::tables::is_post_script;
 use ass_num::{FlatLists, Items, Mem};
+use font_bytes::{u8_at, u16_at};
 use std::alloc::Global;
 
 /// "name"
@@ -19,6 +20,9 @@ const FAMILY: u16 = 1;
 
 /// The number of a full name.
 const FULL: u16 = 4;
+
+/// The number of a PostScript name.
+const POST_SCRIPT: u16 = 6;
 
 /// The most families of a font, and the most full names.
 const MAX_NAMES: usize = 64;
@@ -204,7 +208,7 @@ fn ranked_names(
 fn families_of(alloc: Global, bytes: &[u8], names: Table) -> Mem<FlatLists<u8>>
     requires names { IsTableIn bytes.now names }
     requires short { length bytes.now ≤ max_file_bytes }
-    ensures { IfOk result (λ families. families ≡ (table_names bytes.now names).families) }
+    ensures { IfOk result (λ families. families ≡ table_families bytes.now names) }
 {
     let families = ranked_names(alloc, bytes, names, FAMILY, WINDOWS, MAX_NAMES)?;
     if families.len() > 0 {
@@ -213,15 +217,32 @@ fn families_of(alloc: Global, bytes: &[u8], names: Table) -> Mem<FlatLists<u8>>
     ranked_names(alloc, bytes, names, FAMILY, OTHER, 1)
 }
 
+/// The number of the names that stand for full ones: in a font with PostScript outlines its PostScript names.
+fn whole_kind(is_post_script: bool) -> u16
+    ensures { result ≡ whole_kind is_post_script }
+{
+    if is_post_script {
+        return POST_SCRIPT;
+    }
+    FULL
+}
+
 /// The names that a table gives.
-fn table_names(alloc: Global, bytes: &[u8], names: Table) -> Mem<FontNames>
+fn table_names(alloc: Global, bytes: &[u8], is_post_script: bool, names: Table) -> Mem<FontNames>
     requires names { IsTableIn bytes.now names }
     requires short { length bytes.now ≤ max_file_bytes }
-    ensures { IfOk result (λ found. found ≡ table_names bytes.now names) }
+    ensures { IfOk result (λ found. found ≡ table_names bytes.now is_post_script names) }
 {
     Ok(FontNames {
         families: families_of(alloc, bytes, names)?,
-        full_names: ranked_names(alloc, bytes, names, FULL, WINDOWS, MAX_NAMES)?,
+        full_names: ranked_names(
+            alloc,
+            bytes,
+            names,
+            whole_kind(is_post_script),
+            WINDOWS,
+            MAX_NAMES,
+        )?,
     })
 }
 
@@ -232,7 +253,7 @@ pub fn font_names(alloc: Global, bytes: &[u8], directory: Directory) -> Mem<Font
     ensures { IfOk result (λ names. names ≡ font_names bytes.now directory) }
 {
     match long_table(bytes, directory, NAMES, 6) {
-        Some(names) => table_names(alloc, bytes, names),
+        Some(names) => table_names(alloc, bytes, is_post_script(bytes, directory), names),
         None => Ok(FontNames {
             families: FlatLists::new(alloc),
             full_names: FlatLists::new(alloc),

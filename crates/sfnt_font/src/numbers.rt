@@ -2,17 +2,17 @@
 
 ghost use Rattle.std.specs.Prelude.{◌≡◌, ◌<◌, ◌≤◌, ◌^◌, length, IfSome, IfOk, pos, neg_ℤ, ◌≤ℤ◌};
 ghost use Rattle.ass_num.specs.Limits.{max_file_bytes};
-ghost use Rattle.sfnt_font.specs.Bytes.{s16_at, IsPlace};
+ghost use Rattle.font_bytes.specs.Bytes.{s16_at, IsPlace};
 ghost use Rattle.sfnt_font.specs.Directory.{IsTableIn, AreTablesIn, IsDirectory, table_end};
 ghost use Rattle.sfnt_font.specs.Numbers.{heights_or, heights_from, window_heights, typographic_heights};
 ghost use Rattle.sfnt_font.specs.Numbers.{line_heights, box_heights, font_heights, bar_at, bar_of};
 ghost use Rattle.sfnt_font.specs.Numbers.{bar_or, underline_of, strikeout_of, made_numbers, sfnt_numbers, IsHeight, IsFontBar, AreFontNumbers};
 ghost use Rattle.sfnt_font.specs.Numbers.{style_weight, weight_or, weight_of, is_slanted, IsWeight};
 
-use crate::bytes::{s16_at, u16_at};
 use crate::cause::{SfntCause, SfntRefusal};
 use crate::directory::{Directory, Table, long_table};
 use crate::tables::Tables;
+use font_bytes::{s16_at, u16_at};
 
 /// "OS/2"
 const METRICS: u32 = 1_330_851_634;

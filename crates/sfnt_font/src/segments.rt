@@ -7,10 +7,10 @@ ghost use Rattle.sfnt_font.specs.Maps.{max_code, group_at, range_at, segment_at,
 ghost use Rattle.sfnt_font.specs.Ranges.{are_in_order};
 ghost use Rattle.sfnt_font.specs.Fonts.{segment_of, place_in};
 
-use crate::bytes::{u16_at, u32_at};
 use crate::cause::{SfntCause, SfntRefusal};
 use crate::maps::{CharacterMap, MapFormat};
 use ass_num::Items;
+use font_bytes::{u16_at, u32_at};
 use std::alloc::Global;
 
 /// The last code of a character.

@@ -3,7 +3,7 @@ use Rattle.std.proofs.Common.{ℕ, ◌+◌, ◌-◌, ◌*◌, ◌<◌, ◌≤◌
 use Rattle.std.specs.Prelude.{◌==◌, nat_lt}
 use Rattle.sfnt_font.specs.declared.directory.Table.{Table}
 use Rattle.sfnt_font.specs.declared.font.SfntFont.{SfntFont}
-use Rattle.sfnt_font.specs.Bytes.{u8_at, u16_at}
+use Rattle.font_bytes.specs.Bytes.{u8_at, u16_at}
 use Rattle.sfnt_font.specs.Ranges.{IsSfntFont}
 use Rattle.sfnt_font.proofs.RangeLemmas.{u16_at-most}
 use Rattle.sfnt_glyphs.specs.Metrics.{advance_at, advance_of}

@@ -7,7 +7,7 @@ use Rattle.sfnt_glyphs.specs.declared.drawn.Room.{Room}
 use Rattle.sfnt_font.specs.declared.font.SfntFont.{SfntFont}
 use Rattle.sfnt_glyphs.specs.declared.parts.Part.{Part}
 use Rattle.sfnt_glyphs.specs.declared.stretch.Stretch.{Stretch}
-use Rattle.sfnt_font.specs.Bytes.{u16_at, s16_at}
+use Rattle.font_bytes.specs.Bytes.{u16_at, s16_at}
 use Rattle.sfnt_glyphs.specs.Metrics.{bearing_of}
 use Rattle.sfnt_glyphs.specs.Glyphs.{no_points, glyph_drawn, drawn_or_blank, glyph_stretch, stretch_drawn, simple_glyph, max_parts, parts_from, part_at, behind_part, drawn_part}
 

@@ -5,6 +5,8 @@ use Rattle.ass_num.specs.Limits.{max_file_bytes}
 use Rattle.outline_points.specs.Limits.{max_unit}
 use Rattle.outline_points.specs.declared.glyph_point.GlyphPoint.{GlyphPoint}
 use Rattle.sfnt_font.specs.declared.directory.Table.{Table}
+use Rattle.sfnt_font.specs.declared.tables.Outlines.{Outlines}
+use Rattle.sfnt_font.specs.declared.tables.Outlines.TheVariants.{TrueTypeOutlines, PostScriptOutlines}
 use Rattle.sfnt_glyphs.specs.declared.stretch.Stretch.{Stretch}
 use Rattle.sfnt_glyphs.specs.declared.simple.SizeRun.{SizeRun}
 use Rattle.sfnt_glyphs.specs.declared.simple.FlagRun.{FlagRun}
@@ -13,7 +15,7 @@ use Rattle.sfnt_glyphs.specs.declared.points.Placing.{Placing}
 use Rattle.sfnt_glyphs.specs.declared.parts.Part.{Part}
 use Rattle.sfnt_glyphs.specs.declared.drawn.Room.{Room}
 use Rattle.sfnt_glyphs.specs.declared.drawn.Drawn.{Drawn}
-use Rattle.sfnt_font.specs.Bytes.{u8_at, u16_at, u32_at, s16_at, s8_at}
+use Rattle.font_bytes.specs.Bytes.{u8_at, u16_at, u32_at, s16_at, s8_at}
 use Rattle.sfnt_font.specs.declared.font.SfntFont.{SfntFont}
 use Rattle.sfnt_glyphs.specs.Metrics.{bearing_of}
 
@@ -40,8 +42,8 @@ wide_place bytes loca g = if nat_lt loca.size (4 * g + 4) then None else Some (u
 abbrev pub narrow_place : List ℕ → Table → ℕ → Option ℕ
 narrow_place bytes loca g = if nat_lt loca.size (2 * g + 2) then None else Some (2 * u16_at bytes (loca.place + 2 * g))
 
-abbrev pub glyph_place : SfntFont → ℕ → Option ℕ
-glyph_place font g = if font.numbers.wide_places then wide_place font.bytes font.tables.loca g else narrow_place font.bytes font.tables.loca g
+abbrev pub glyph_place : SfntFont → Table → ℕ → Option ℕ
+glyph_place font loca g = if font.numbers.wide_places then wide_place font.bytes loca g else narrow_place font.bytes loca g
 
 -- what lies between two places of a table, both held at its size
 abbrev pub held_stretch : Table → ℕ → ℕ → Option Stretch
@@ -56,9 +58,13 @@ pub record IsStretch (stretch : Stretch) : Type 0 where
   pub ascends : stretch.from ≤ stretch.to
   pub within : stretch.to ≤ max_file_bytes
 
--- the bytes of glyph g
+-- the bytes of glyph g in `glyf`; a font with PostScript outlines has none there
+abbrev pub outline_stretch : SfntFont → Outlines → ℕ → Option Stretch
+outline_stretch font (TrueTypeOutlines loca glyf) g = stretch_between glyf (glyph_place font loca g) (glyph_place font loca (g + 1))
+outline_stretch font (PostScriptOutlines cff) g = None
+
 abbrev pub glyph_stretch : SfntFont → ℕ → Option Stretch
-glyph_stretch font g = stretch_between font.tables.glyf (glyph_place font g) (glyph_place font (g + 1))
+glyph_stretch font g = outline_stretch font font.tables.outlines g
 
 -- whether a glyph has no bytes
 abbrev pub is_blank_glyph : SfntFont → ℕ → Bool

@@ -1,7 +1,7 @@
 -- Public: how wide glyphs are.
 use Rattle.std.specs.Prelude.{ℕ, ◌+◌, ◌-◌, ◌*◌, ◌==◌, nat_lt, if◌then◌else◌, List, ℤ, pos}
 use Rattle.sfnt_font.specs.declared.directory.Table.{Table}
-use Rattle.sfnt_font.specs.Bytes.{u16_at, s16_at}
+use Rattle.font_bytes.specs.Bytes.{u16_at, s16_at}
 use Rattle.sfnt_font.specs.declared.font.SfntFont.{SfntFont}
 
 -- the advance of an entry of which at least so many bytes lie in the table, or else 0

@@ -14,8 +14,9 @@ use crate::points::{Placing, placed_points};
 use crate::simple::{points_behind, sizes_at};
 use crate::stretch::{Stretch, glyph_stretch};
 use ass_num::{FlatLists, Items, Mem};
+use font_bytes::{s16_at, u16_at};
 use outline_points::GlyphPoint;
-use sfnt_font::{SfntFont, s16_at, u16_at};
+use sfnt_font::SfntFont;
 use std::alloc::Global;
 
 /// The most points of a glyph.

@@ -6,7 +6,8 @@ ghost use Rattle.sfnt_font.specs.Directory.{IsTableIn};
 ghost use Rattle.sfnt_glyphs.specs.Metrics.{advance_at, entry_advance, advance_of, bearing_at, bearing_in, bearing_of};
 ghost use Rattle.sfnt_font.specs.Ranges.{IsSfntFont};
 
-use sfnt_font::{SfntFont, Table, s16_at, u16_at};
+use font_bytes::{s16_at, u16_at};
+use sfnt_font::{SfntFont, Table};
 
 /// The advance of an entry that has at least so many bytes in its table.
 fn advance_at(bytes: &[u8], hmtx: Table, i: usize, least: usize) -> u16

@@ -6,7 +6,7 @@ ghost use Rattle.sfnt_glyphs.specs.Glyphs.{shift_size, scale_size, placing_by, p
 
 use crate::points::Placing;
 use crate::simple::has_flag;
-use sfnt_font::{s8_at, s16_at, u16_at};
+use font_bytes::{s8_at, s16_at, u16_at};
 
 /// A part: its glyph, where its points are placed, whether the whole takes its shift, whether another part follows,
 /// and the place behind it.

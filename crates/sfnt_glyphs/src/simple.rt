@@ -7,8 +7,8 @@ ghost use Rattle.sfnt_glyphs.specs.Glyphs.{long_step, next_coordinate, written_x
 
 use crate::points::held_unit;
 use ass_num::{Items, Mem};
+use font_bytes::{s16_at, u8_at, u16_at};
 use outline_points::GlyphPoint;
-use sfnt_font::{s16_at, u8_at, u16_at};
 use std::alloc::Global;
 
 /// How many points a contour has, and how many it and those before it have.

@@ -6,7 +6,8 @@ ghost use Rattle.ass_num.specs.Limits.{max_file_bytes};
 ghost use Rattle.sfnt_font.specs.Directory.{IsTableIn};
 ghost use Rattle.sfnt_font.specs.Ranges.{IsSfntFont};
 
-use sfnt_font::{SfntFont, Table, u16_at, u32_at};
+use font_bytes::{u16_at, u32_at};
+use sfnt_font::{Outlines, SfntFont, Table};
 
 /// The bytes from one place up to another.
 #[derive(Clone, Copy)]
@@ -73,15 +74,16 @@ fn stretch_between(glyf: Table, from: Option<usize>, to: Option<usize>) -> Optio
 }
 
 /// The place of glyph g in `glyf`.
-fn glyph_place(font: &SfntFont, g: usize) -> Option<usize>
+fn glyph_place(font: &SfntFont, loca: Table, g: usize) -> Option<usize>
     requires font { IsSfntFont font.now }
+    requires loca { IsTableIn font.now.bytes loca }
     requires g { g ≤ 65536 }
-    ensures { result ≡ glyph_place font.now g }
+    ensures { result ≡ glyph_place font.now loca g }
 {
     if font.numbers().wide_places {
-        return wide_place(font.bytes(), font.tables().loca, g);
+        return wide_place(font.bytes(), loca, g);
     }
-    narrow_place(font.bytes(), font.tables().loca, g)
+    narrow_place(font.bytes(), loca, g)
 }
 
 /// The bytes of glyph g.
@@ -91,11 +93,16 @@ pub fn glyph_stretch(font: &SfntFont, g: u16) -> Option<Stretch>
     ensures within { IfSome result IsStretch }
 {
     let g = usize::from(g);
-    stretch_between(
-        font.tables().glyf,
-        glyph_place(font, g),
-        glyph_place(font, g + 1),
-    )
+    match font.tables().outlines {
+        Outlines::TrueTypeOutlines(loca, glyf) => {
+            stretch_between(
+                glyf,
+                glyph_place(font, loca, g),
+                glyph_place(font, loca, g + 1),
+            )
+        }
+        Outlines::PostScriptOutlines(_) => None,
+    }
 }
 
 /// Whether a glyph has no bytes.

@@ -1,7 +1,7 @@
 use Rattle.std.proofs.Common.{◌≡◌, ◌+◌, ◌*◌, length, false, arith, ◌∙◌}
 use Rattle.std.specs.Prelude.{nat_lt}
 use Rattle.std.proofs.lemmas.Bool.Decides.{nat_tests}
-use Rattle.sfnt_font.specs.Bytes.{u32_at}
+use Rattle.font_bytes.specs.Bytes.{u32_at}
 use Rattle.sfnt_font.proofs.Steps.{bad_face-next}
 use Rattle.sfnt_font.proofs.faces.bad_face.Goals as goal
 

@@ -1,5 +1,5 @@
 use Rattle.std.proofs.Common.{◌≡◌, ◌+◌, ap, ◌∙◌}
-use Rattle.sfnt_font.specs.Bytes.{u8_at}
+use Rattle.font_bytes.specs.Bytes.{u8_at}
 use Rattle.sfnt_font.specs.Names.{mac_character, narrow_unit}
 use Rattle.sfnt_font.proofs.Steps.{unit-next}
 use Rattle.sfnt_font.proofs.names.narrow_units.Goals as goal

@@ -1,5 +1,5 @@
 use Rattle.std.proofs.Common.{◌≡◌, ℕ, ◌+◌, ◌*◌, ◌<◌, List, true, false, arith, ap, ◌∙◌, sym}
-use Rattle.sfnt_font.specs.Bytes.{u16_at}
+use Rattle.font_bytes.specs.Bytes.{u16_at}
 use Rattle.sfnt_font.specs.Names.{is_name, record_name}
 use Rattle.sfnt_font.proofs.Steps.{found_with, name-found, names-full, record-passed, record-there}
 use Rattle.sfnt_font.proofs.names.ranked_names.Goals as goal

@@ -1,5 +1,5 @@
 use Rattle.std.proofs.Common.{◌≡◌, ◌+◌, ◌-◌, ◌*◌}
-use Rattle.sfnt_font.specs.Bytes.{u16_at}
+use Rattle.font_bytes.specs.Bytes.{u16_at}
 use Rattle.sfnt_font.specs.Names.{ranked_names, record_name, records_from}
 use Rattle.sfnt_font.proofs.Steps.{found_with}
 use Rattle.sfnt_font.proofs.names.ranked_names.Given as goal

@@ -1,5 +1,5 @@
 use Rattle.std.proofs.Common.{◌≡◌, ◌+◌, ◌*◌, ap, ◌∙◌}
-use Rattle.sfnt_font.specs.Bytes.{u16_at}
+use Rattle.font_bytes.specs.Bytes.{u16_at}
 use Rattle.sfnt_font.specs.Names.{wide_unit}
 use Rattle.sfnt_font.proofs.Steps.{unit-next}
 use Rattle.sfnt_font.proofs.names.wide_units.Goals as goal

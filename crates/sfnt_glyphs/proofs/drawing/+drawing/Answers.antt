@@ -2,7 +2,7 @@ use Rattle.std.proofs.Common.{◌≡◌, ◌≤◌, ◌<◌, ◌+◌, ◌-◌, �
 use Rattle.std.specs.Prelude.{IfOk}
 use Rattle.sfnt_glyphs.specs.declared.drawn.Drawn.{Drawn}
 use Rattle.std.proofs.lemmas.Int.{ints}
-use Rattle.sfnt_font.specs.Bytes.{u16_at, s16_at}
+use Rattle.font_bytes.specs.Bytes.{u16_at, s16_at}
 use Rattle.sfnt_glyphs.specs.Metrics.{bearing_of}
 use Rattle.sfnt_glyphs.specs.Glyphs.{no_points, glyph_drawn, stretch_drawn, parts_from, drawn_part, part_at, max_parts}
 use Rattle.sfnt_glyphs.proofs.Drawings.{drawn-deep, drawn-missing, drawn-blank, drawn-stretch, parts-spent, parts-none, parts-broken, parts-last, parts-next, stretch-simple, stretch-parts}

@@ -1,7 +1,7 @@
 use Rattle.std.proofs.Common.{◌≡◌, ◌+◌, ◌+ℤ◌, ◌∙◌, false, arith, ap, rules, FitsSigned, to_z, of_z, w32, w64}
 use Rattle.std.specs.Prelude.{nat_lt}
 use Rattle.std.proofs.lemmas.Bool.Decides.{nat_tests}
-use Rattle.sfnt_font.specs.Bytes.{s16_at}
+use Rattle.font_bytes.specs.Bytes.{s16_at}
 use Rattle.sfnt_glyphs.specs.Glyphs.{coordinate_at}
 use Rattle.sfnt_glyphs.proofs.Wide.{long_sum}
 use Rattle.sfnt_glyphs.proofs.simple.long_step.Goals as goal
