@@ -4,7 +4,7 @@ use Rattle.std.specs.Prelude.{IfOk}
 use Rattle.std.proofs.lemmas.List.{length-map}
 use Rattle.sfnt_font.specs.declared.cause.SfntRefusal.{SfntRefusal}
 use Rattle.sfnt_font.specs.declared.font.SfntFont.{SfntFont}
-use Rattle.sfnt_font.specs.Bytes.{u32_at}
+use Rattle.font_bytes.specs.Bytes.{u32_at}
 use Rattle.sfnt_font.specs.Faces.{is_sfnt_kind, max_faces}
 use Rattle.sfnt_font.specs.Fonts.{sfnts_of}
 use Rattle.bdf_font.specs.declared.cause.FontFileRefusal.{FontFileRefusal}

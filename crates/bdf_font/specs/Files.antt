@@ -3,7 +3,7 @@ use Rattle.std.specs.Prelude.{◌≡◌, ℕ, Bool, true, false, List, [], ◌�
 use Rattle.sfnt_font.specs.declared.cause.SfntRefusal.{SfntRefusal}
 use Rattle.sfnt_font.specs.declared.cause.SfntRefusal.TheVariants as sfnt
 use Rattle.sfnt_font.specs.declared.font.SfntFont.{SfntFont}
-use Rattle.sfnt_font.specs.Bytes.{u32_at}
+use Rattle.font_bytes.specs.Bytes.{u32_at}
 use Rattle.sfnt_font.specs.Faces.{is_sfnt_kind}
 use Rattle.sfnt_font.specs.Fonts.{sfnts_of}
 use Rattle.bdf_font.specs.declared.cause.FontFileRefusal.{FontFileRefusal}

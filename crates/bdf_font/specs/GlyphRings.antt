@@ -3,6 +3,7 @@ use Rattle.std.specs.Prelude.{Bool, true, false, ℤ, List, [], ◌∷◌, ◌++
 use Rattle.ass_num.specs.declared.geometry.Point.{Point}
 use Rattle.ass_num.specs.declared.geometry.Matrix.{Matrix}
 use Rattle.outline_points.specs.Contours.{contour_rings}
+use Rattle.outline_points.specs.CubicContours.{stroke_rings}
 use Rattle.outline_points.specs.Glyphs.{Bitmap, bitmap_quads, bar_quad}
 use Rattle.sfnt_font.specs.declared.numbers.Bar.{Bar}
 use Rattle.bdf_font.specs.declared.glyphs.FontGlyph.{FontGlyph}
@@ -19,6 +20,7 @@ bitmap_of pixels = record { w = pixels.w; h = pixels.h; x = pixels.x; y = pixels
 abbrev pub shape_rings : Matrix → Bool → ℤ → GlyphShape → List (List Point)
 shape_rings m bold step (shape.Pixels pixels) = bitmap_quads m bold (bitmap_of pixels)
 shape_rings m bold step (shape.Contours contours) = contour_rings m bold step contours
+shape_rings m bold step (shape.Strokes contours) = stroke_rings m bold step contours
 
 -- a bar, where it is wanted and the font has it
 abbrev pub bar_rings : Matrix → Bool → ℤ → Option Bar → List (List Point)

@@ -3,6 +3,7 @@ use Rattle.std.specs.Prelude.{ℕ, Bool, false, not, List, [], Option, Some, Non
 use Rattle.std.specs.List.{list_any, range_with_len}
 use Rattle.ass_num.specs.Bitmaps.{pixel_is_set}
 use Rattle.outline_points.specs.declared.glyph_point.GlyphPoint.{GlyphPoint}
+use Rattle.outline_points.specs.declared.stroke.Stroke.{Stroke}
 use Rattle.bdf_font.specs.declared.glyphs.FontGlyph.{FontGlyph}
 use Rattle.bdf_font.specs.declared.glyphs.GlyphShape.{GlyphShape}
 use Rattle.bdf_font.specs.declared.glyphs.GlyphShape.TheVariants as shape
@@ -24,7 +25,14 @@ bitmap_glyph code advance pixels = record { code = code; advance = advance; blan
 abbrev pub pixels_in : GlyphShape → Option Pixels
 pixels_in (shape.Pixels pixels) = Some pixels
 pixels_in (shape.Contours contours) = None
+pixels_in (shape.Strokes contours) = None
 
 abbrev pub contours_in : GlyphShape → List (List GlyphPoint)
 contours_in (shape.Pixels pixels) = []
 contours_in (shape.Contours contours) = contours
+contours_in (shape.Strokes contours) = []
+
+abbrev pub strokes_in : GlyphShape → List (List Stroke)
+strokes_in (shape.Pixels pixels) = []
+strokes_in (shape.Contours contours) = []
+strokes_in (shape.Strokes contours) = contours

@@ -2,6 +2,7 @@
 use Rattle.std.specs.Prelude.{◌≡◌, ℕ, ◌+◌, ◌*◌, ◌/◌, ◌<◌, ◌≤◌, length, All, IfSome, Result, Ok, Err, ℤ, pos, ◌≤ℤ◌}
 use Rattle.ass_num.specs.Limits.{IsWithin}
 use Rattle.outline_points.specs.Contours.{IsGlyphPoint}
+use Rattle.outline_points.specs.CubicContours.{IsGlyphStroke}
 use Rattle.sfnt_font.specs.declared.numbers.Bar.{Bar}
 use Rattle.bdf_font.specs.Limits.{max_bitmap_side, max_font_glyphs, max_glyphs, max_measure, max_offset}
 use Rattle.bdf_font.specs.declared.cause.Stop.{Stop}
@@ -46,6 +47,7 @@ pub record IsBitmap (pixels : Pixels) : Type 0 where
 abbrev pub IsShape : GlyphShape → Type 0
 IsShape (shape.Pixels pixels) = IsBitmap pixels
 IsShape (shape.Contours contours) = All (All IsGlyphPoint) contours
+IsShape (shape.Strokes contours) = All (All IsGlyphStroke) contours
 
 -- A glyph that a font may have.
 pub record IsGlyph (glyph : FontGlyph) : Type 0 where

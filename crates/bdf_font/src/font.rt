@@ -7,7 +7,7 @@ ghost use Rattle.bdf_font.specs.FontData.{font_value, IsFontData};
 ghost use Rattle.bdf_font.specs.Fonts.{bitmap_font, glyph_of, place_of};
 ghost use Rattle.bdf_font.specs.Limits.{max_glyphs};
 ghost use Rattle.bdf_font.specs.Outlines.{outline_font};
-ghost use Rattle.bdf_font.specs.Pixels.{pixels_in, contours_in};
+ghost use Rattle.bdf_font.specs.Pixels.{pixels_in, contours_in, strokes_in};
 ghost use Rattle.bdf_font.specs.Sets.{has_full_name, is_among, is_missing_at, is_of_family, without_at};
 ghost use Rattle.bdf_font.specs.declared.glyphs.FontGlyph.{FontGlyph};
 ghost use Rattle.sfnt_font.specs.Ranges.{IsSfntFont};
@@ -17,10 +17,10 @@ use crate::font_data::FontData;
 use crate::glyphs::{FontGlyph, Pixels};
 use crate::outlines::{
     MISSING_CODE, outline_advance, outline_contours, outline_is_blank, outline_is_missing,
-    outline_place,
+    outline_place, outline_strokes,
 };
 use ass_num::{FlatLists, Items, Mem};
-use outline_points::GlyphPoint;
+use outline_points::{GlyphPoint, Stroke};
 use sfnt_font::{Bar, SfntFont};
 use std::alloc::Global;
 use std::marker::Model;
@@ -322,6 +322,17 @@ impl Font {
         match self.data() {
             FontData::Bitmaps(font) => font.glyph_at(g).shape.contours(alloc),
             FontData::Outlines(font) => outline_contours(alloc, font, g),
+        }
+    }
+
+    /// The contours of lines and cubic curves of a glyph; one of another shape has none.
+    pub fn strokes_at(&self, alloc: Global, g: u32) -> Mem<FlatLists<Stroke>>
+        requires { g < length self.now.glyphs }
+        ensures { IfOk result (λ contours. contours ≡ option_map_or (λ (glyph : FontGlyph). strokes_in glyph.shape) (slice_get self.now.glyphs g) []) }
+    {
+        match self.data() {
+            FontData::Bitmaps(font) => font.glyph_at(g).shape.strokes(alloc),
+            FontData::Outlines(font) => outline_strokes(alloc, font, g),
         }
     }
 

@@ -3,11 +3,11 @@
 ghost use Rattle.std.specs.Prelude.{◌≡◌, ◌<◌, IfOk};
 ghost use Rattle.std.specs.Option.{option_map};
 ghost use Rattle.ass_num.specs.Bitmaps.{pixel_is_set};
-ghost use Rattle.bdf_font.specs.Pixels.{row_has_pixels, has_pixels, bitmap_glyph, pixels_in, contours_in};
+ghost use Rattle.bdf_font.specs.Pixels.{row_has_pixels, has_pixels, bitmap_glyph, pixels_in, contours_in, strokes_in};
 ghost use Rattle.bdf_font.specs.Ranges.{IsBitmap};
 
 use ass_num::{FlatLists, Items, Mem};
-use outline_points::{GlyphPoint, pixel_is_set};
+use outline_points::{GlyphPoint, Stroke, pixel_is_set};
 use std::alloc::Global;
 
 /// A glyph: its code, how far the pen moves, whether nothing of it is seen, whether it is drawn for missing characters,
@@ -28,6 +28,8 @@ pub enum GlyphShape {
     Pixels(Pixels),
     /// Contours in the font's units.
     Contours(FlatLists<GlyphPoint>),
+    /// Contours of lines and cubic curves in 1/65,536 of the font's unit.
+    Strokes(FlatLists<Stroke>),
 }
 
 /// A bitmap of `w` by `h` pixels, whose lower left corner lies at (`x`, `y`) from the pen, y upwards. `bits` holds `h`
@@ -97,6 +99,7 @@ impl GlyphShape {
         match self {
             GlyphShape::Pixels(pixels) => Some(pixels),
             GlyphShape::Contours(_) => None,
+            GlyphShape::Strokes(_) => None,
         }
     }
 
@@ -107,11 +110,33 @@ impl GlyphShape {
         match self {
             GlyphShape::Pixels(_) => Ok(FlatLists::new(alloc)),
             GlyphShape::Contours(contours) => contours_copy(alloc, contours),
+            GlyphShape::Strokes(_) => Ok(FlatLists::new(alloc)),
+        }
+    }
+
+    /// A copy of the contours of strokes; any other shape has none.
+    pub fn strokes(&self, alloc: Global) -> Mem<FlatLists<Stroke>>
+        ensures { IfOk result (λ contours. contours ≡ strokes_in self.now) }
+    {
+        match self {
+            GlyphShape::Pixels(_) => Ok(FlatLists::new(alloc)),
+            GlyphShape::Contours(_) => Ok(FlatLists::new(alloc)),
+            GlyphShape::Strokes(contours) => strokes_copy(alloc, contours),
         }
     }
 }
 
 fn contours_copy(alloc: Global, contours: &FlatLists<GlyphPoint>) -> Mem<FlatLists<GlyphPoint>>
+    ensures { IfOk result (λ copy. copy ≡ contours.now) }
+{
+    let mut copy = FlatLists::with_capacity(alloc, contours.len(), contours.all_items().len())?;
+    for k in 0..contours.len() {
+        copy.push(contours.get(k))?;
+    }
+    Ok(copy)
+}
+
+fn strokes_copy(alloc: Global, contours: &FlatLists<Stroke>) -> Mem<FlatLists<Stroke>>
     ensures { IfOk result (λ copy. copy ≡ contours.now) }
 {
     let mut copy = FlatLists::with_capacity(alloc, contours.len(), contours.all_items().len())?;

@@ -4,14 +4,15 @@ ghost use Rattle.std.specs.Prelude.{◌≡◌, ◌<◌, [], length, pos, true, I
 ghost use Rattle.std.specs.Option.{option_map_or};
 ghost use Rattle.bdf_font.specs.Fonts.{glyph_of};
 ghost use Rattle.bdf_font.specs.Outlines.{outline_font, outline_glyphs};
-ghost use Rattle.bdf_font.specs.Pixels.{contours_in};
+ghost use Rattle.bdf_font.specs.Pixels.{contours_in, strokes_in};
 ghost use Rattle.bdf_font.specs.Sets.{is_missing_at};
 ghost use Rattle.bdf_font.specs.declared.glyphs.FontGlyph.{FontGlyph};
 ghost use Rattle.sfnt_font.specs.Ranges.{IsSfntFont};
 
 use ass_num::{FlatLists, Mem};
-use outline_points::GlyphPoint;
-use sfnt_font::SfntFont;
+use cff_font::{cff_contours, cff_is_blank};
+use outline_points::{GlyphPoint, Stroke};
+use sfnt_font::{Outlines, SfntFont};
 use sfnt_glyphs::{advance_of, contours_of, is_blank};
 use std::alloc::Global;
 
@@ -27,13 +28,17 @@ pub fn outline_advance(font: &SfntFont, place: u32) -> i32
     i32::from(advance_of(font, font.glyph_at(place)))
 }
 
-/// Whether the glyph at a place has no bytes.
+/// Whether the glyph at a place has no bytes, or draws nothing at sight.
 pub fn outline_is_blank(font: &SfntFont, place: u32) -> bool
     requires font { IsSfntFont font.now }
     requires place { place < length (outline_glyphs font.now) }
     ensures { result ≡ option_map_or (λ (glyph : FontGlyph). glyph.blank) (slice_get (outline_glyphs font.now) place) true }
 {
-    is_blank(font, font.glyph_at(place))
+    let g = font.glyph_at(place);
+    match &font.tables().outlines {
+        Outlines::TrueTypeOutlines(_, _) => is_blank(font, g),
+        Outlines::PostScriptOutlines(cff) => cff_is_blank(font.bytes(), cff, g),
+    }
 }
 
 /// Whether the glyph at a place is drawn for missing characters.
@@ -52,7 +57,25 @@ pub fn outline_contours(alloc: Global, font: &SfntFont, place: u32) -> Mem<FlatL
     ensures { IfOk result (λ contours. contours
         ≡ option_map_or (λ (glyph : FontGlyph). contours_in glyph.shape) (slice_get (outline_glyphs font.now) place) []) }
 {
-    contours_of(alloc, font, font.glyph_at(place))
+    match &font.tables().outlines {
+        Outlines::TrueTypeOutlines(_, _) => contours_of(alloc, font, font.glyph_at(place)),
+        Outlines::PostScriptOutlines(_) => Ok(FlatLists::new(alloc)),
+    }
+}
+
+/// The contours of lines and cubic curves of the glyph at a place.
+pub fn outline_strokes(alloc: Global, font: &SfntFont, place: u32) -> Mem<FlatLists<Stroke>>
+    requires font { IsSfntFont font.now }
+    requires place { place < length (outline_glyphs font.now) }
+    ensures { IfOk result (λ contours. contours
+        ≡ option_map_or (λ (glyph : FontGlyph). strokes_in glyph.shape) (slice_get (outline_glyphs font.now) place) []) }
+{
+    match &font.tables().outlines {
+        Outlines::TrueTypeOutlines(_, _) => Ok(FlatLists::new(alloc)),
+        Outlines::PostScriptOutlines(cff) => {
+            cff_contours(alloc, font.bytes(), cff, font.glyph_at(place))
+        }
+    }
 }
 
 /// The place of a character's glyph: of its code, or else the last one.
