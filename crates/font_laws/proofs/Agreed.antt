@@ -1,6 +1,7 @@
 -- Numbers that lie where two files agree.
-use Rattle.std.proofs.Common.{◌≡◌, ℕ, ◌+◌, ◌*◌, ◌≤◌, List, Bool, true, false, cond, ◌&&◌, refl, ap, arith}
-use Rattle.sfnt_font.specs.Bytes.{u8_at, u16_at, u32_at, s8_at, s16_at, with_sign}
+use Rattle.std.proofs.Common.{◌≡◌, ℕ, ◌+◌, ◌*◌, ◌≤◌, List, Bool, true, false, cond, ◌&&◌, Option, Some, None, refl, ap, ◌∙◌, arith}
+use Rattle.std.specs.Prelude.{IfSome, option_and_then, option_map}
+use Rattle.font_bytes.specs.Bytes.{u8_at, u16_at, u32_at, s8_at, s16_at, with_sign}
 use Rattle.font_laws.specs.Laws.{AgreeOn}
 
 digits_same : (unit : ℕ) {x y u v : ℕ} → x ≡ u → y ≡ v → x * unit + y ≡ u * unit + v
@@ -40,3 +41,27 @@ if_same false true e h k = absurd cc
 pub and_same : (b : Bool) (x y : Bool) → (b ≡ true → x ≡ y) → (b && x) ≡ (b && y)
 and_same true x y h = h refl
 and_same false x y h = refl
+
+-- ---- readings that may find nothing
+
+-- Two readings find one value, of which this holds, or both find none.
+pub record AreOne {T : Type 0} (P : T → Type 0) (o p : Option T) : Type 0 where
+  pub same : o ≡ p
+  pub holds : IfSome o P
+
+pub none_is : {T : Type 0} (P : T → Type 0) → AreOne P None None
+none_is P = record { same = refl; holds = tt }
+
+pub then_one : {T U : Type 0} (P : T → Type 0) (Q : U → Type 0) (o p : Option T) (f g : T → Option U) → AreOne P o p → ((x : T) → P x → AreOne Q (f x) (g x)) → AreOne Q (option_and_then f o) (option_and_then g p)
+then_one P Q None p f g h step = record { same = ap (option_and_then g) h.same; holds = tt }
+then_one P Q (Some x) p f g h step = record { same = (step x h.holds).same ∙ ap (option_and_then g) h.same; holds = (step x h.holds).holds }
+
+pub map_one : {T U : Type 0} (P : T → Type 0) (Q : U → Type 0) (o p : Option T) (f : T → U) → AreOne P o p → ((x : T) → P x → Q (f x)) → AreOne Q (option_map f o) (option_map f p)
+map_one P Q None p f h step = record { same = ap (option_map f) h.same; holds = tt }
+map_one P Q (Some x) p f h step = record { same = ap (option_map f) h.same; holds = step x h.holds }
+
+pub test_one : {T : Type 0} (P : T → Type 0) (b c : Bool) (o p q r : Option T) → b ≡ c → (b ≡ true → AreOne P o q) → (b ≡ false → AreOne P p r) → AreOne P (cond b o p) (cond c q r)
+test_one P true true o p q r e h k = h refl
+test_one P false false o p q r e h k = k refl
+test_one P true false o p q r e h k = absurd cc
+test_one P false true o p q r e h k = absurd cc

@@ -1,4 +1,7 @@
 pub mod Agreed
+pub mod SameIndexes
+pub mod SameCff
+pub mod SameCharstrings
 pub mod SameTables
 pub mod SameNumbers
 pub mod SameMaps

@@ -14,36 +14,21 @@ use Rattle.sfnt_font.specs.declared.segments.Segment.{Segment}
 use Rattle.sfnt_glyphs.specs.declared.simple.Coordinate.{Coordinate}
 use Rattle.sfnt_glyphs.specs.declared.simple.FlagRun.{FlagRun}
 use Rattle.sfnt_glyphs.specs.declared.stretch.Stretch.{Stretch}
+use Rattle.sfnt_font.specs.declared.font.SfntFont.{SfntFont}
+use Rattle.sfnt_font.specs.declared.tables.Outlines.{Outlines}
+use Rattle.sfnt_font.specs.declared.tables.Outlines.TheVariants.{TrueTypeOutlines, PostScriptOutlines}
 use Rattle.sfnt_font.specs.declared.tables.Tables.{Tables}
-use Rattle.sfnt_font.specs.Bytes.{u8_at, u16_at, s16_at, s8_at}
+use Rattle.font_bytes.specs.Bytes.{u8_at, u16_at, s16_at, s8_at}
 use Rattle.sfnt_font.specs.Directory.{table_end}
 use Rattle.sfnt_glyphs.specs.Metrics.{bearing_of}
-use Rattle.sfnt_glyphs.specs.Glyphs.{collected, next_size, size_of_run, no_size, sizes_at, has_flag, read_flag, next_flag, flag_step, flag_in, no_flag, flags_end, flags_at, held_unit, coordinate_at, short_step, long_step, next_coordinate, coordinate_step, value_in, point_in, no_coordinate, written_xs, written_points, no_points, points_only, points_with, flagged_points, points_behind, simple_points, sized_points, simple_glyph, shift_size, scale_size, placing_by, placing_at, flagged_part, part_at, room_for_part, joined_part, behind_part, drawn_part, parts_from, max_parts, max_points, max_depth, stretch_drawn, drawn_or_blank, glyph_drawn, glyph_stretch, glyph_place, shifted_contours, contours_or_none, contours_of}
+use Rattle.sfnt_glyphs.specs.Glyphs.{collected, next_size, size_of_run, no_size, sizes_at, has_flag, read_flag, next_flag, flag_step, flag_in, no_flag, flags_end, flags_at, held_unit, coordinate_at, short_step, long_step, next_coordinate, coordinate_step, value_in, point_in, no_coordinate, written_xs, written_points, no_points, points_only, points_with, flagged_points, points_behind, simple_points, sized_points, simple_glyph, shift_size, scale_size, placing_by, placing_at, flagged_part, part_at, room_for_part, joined_part, behind_part, drawn_part, parts_from, max_parts, max_points, max_depth, stretch_drawn, drawn_or_blank, glyph_drawn, glyph_stretch, glyph_place, outline_stretch, shifted_contours, contours_or_none, contours_of}
 use Rattle.font_laws.specs.Laws.{AgreeOn, AgreeOnTable}
-use Rattle.font_laws.proofs.Agreed.{u8_same, u16_same, s8_same, s16_same, agree_within, if_same}
-use Rattle.font_laws.proofs.SameTables.{AgreeOnTables}
+use Rattle.font_laws.proofs.Agreed.{AreOne, none_is, then_one, test_one, u8_same, u16_same, s8_same, s16_same, agree_within, if_same}
+use Rattle.font_laws.proofs.SameTables.{AgreeOnOutlines, AgreeOnTables}
 use Rattle.font_laws.proofs.SameNumbers.{IsAnything}
 use Rattle.font_laws.proofs.SameGlyphs.{font_keeping, bearing_same, stretch_same, IsStretchOf, stretch_in}
 
 -- ---- steps
-
--- Two readings find one value, of which this holds, or both find none.
-record AreOne {T : Type 0} (P : T → Type 0) (o p : Option T) : Type 0 where
-  same : o ≡ p
-  holds : IfSome o P
-
-none_is : {T : Type 0} (P : T → Type 0) → AreOne P None None
-none_is P = record { same = refl; holds = tt }
-
-then_one : {T U : Type 0} (P : T → Type 0) (Q : U → Type 0) (o p : Option T) (f g : T → Option U) → AreOne P o p → ((x : T) → P x → AreOne Q (f x) (g x)) → AreOne Q (option_and_then f o) (option_and_then g p)
-then_one P Q None p f g h step = record { same = ap (option_and_then g) h.same; holds = tt }
-then_one P Q (Some x) p f g h step = record { same = (step x h.holds).same ∙ ap (option_and_then g) h.same; holds = (step x h.holds).holds }
-
-test_one : {T : Type 0} (P : T → Type 0) (b c : Bool) (o p q r : Option T) → b ≡ c → (b ≡ true → AreOne P o q) → (b ≡ false → AreOne P p r) → AreOne P (cond b o p) (cond c q r)
-test_one P true true o p q r e h k = h refl
-test_one P false false o p q r e h k = k refl
-test_one P true false o p q r e h k = absurd cc
-test_one P false true o p q r e h k = absurd cc
 
 any_holds : {T : Type 0} (o : Option T) → IfSome o IsAnything
 any_holds None = tt
@@ -285,6 +270,12 @@ drawn_or_blank_same draw other a b glyf bearing None room e h is = refl
 drawn_or_blank_same draw other a b glyf bearing (Some s) room e h is =
     stretch_drawn_same draw other a b bearing s room e (agree_within a b glyf.place (table_end glyf) s.from s.to h is.0 is.1)
 
+outlines_drawn_same : (draw other : ℕ → Room → Option Drawn) (a b : List ℕ) (f : SfntFont) (g : ℕ) (bearing : ℤ) (outlines : Outlines) (room : Room) → ((g : ℕ) (room : Room) → draw g room ≡ other g room) →
+    AgreeOnOutlines a b outlines → drawn_or_blank draw a bearing (outline_stretch f outlines g) room ≡ drawn_or_blank other b bearing (outline_stretch f outlines g) room
+outlines_drawn_same draw other a b f g bearing (TrueTypeOutlines loca glyf) room e h =
+    drawn_or_blank_same draw other a b glyf bearing (outline_stretch f (TrueTypeOutlines loca glyf) g) room e h.1.0 (stretch_in glyf (glyph_place f loca g) (glyph_place f loca (g + 1)))
+outlines_drawn_same draw other a b f g bearing (PostScriptOutlines cff) room e h = refl
+
 glyph_drawn_same : (a b : List ℕ) (tables : Tables) (numbers : Numbers) (m : CharacterMap) (segments : List Segment) (names : FontNames) (depth g : ℕ) (room : Room) → AgreeOnTables a b tables →
     glyph_drawn (font_keeping a tables numbers m segments names) depth g room ≡ glyph_drawn (font_keeping b tables numbers m segments names) depth g room
 unfolding glyph_drawn
@@ -293,8 +284,8 @@ glyph_drawn_same a b tables numbers m segments names (suc depth) g room h =
     let f = font_keeping a tables numbers m segments names in
     let other = font_keeping b tables numbers m segments names in
     if_same (nat_lt g numbers.glyphs) (nat_lt g numbers.glyphs) refl (λ _.
-    drawn_or_blank_same (glyph_drawn f depth) (glyph_drawn other depth) a b tables.glyf (bearing_of f g) (glyph_stretch f g) room
-    (λ part room. glyph_drawn_same a b tables numbers m segments names depth part room h) h.glyf.0 (stretch_in tables.glyf (glyph_place f g) (glyph_place f (g + 1)))
+    outlines_drawn_same (glyph_drawn f depth) (glyph_drawn other depth) a b f g (bearing_of f g) tables.outlines room
+    (λ part room. glyph_drawn_same a b tables numbers m segments names depth part room h) h.outlines
     ∙ (ap (λ z. drawn_or_blank (glyph_drawn other depth) b z (glyph_stretch f g) room) (bearing_same a b tables.hmtx numbers.advances g h.hmtx.0)
     ∙ ap (λ o. drawn_or_blank (glyph_drawn other depth) b (bearing_of other g) o room) (stretch_same a b tables numbers m segments names g h))) (λ _. refl)
 

@@ -18,12 +18,13 @@ use Rattle.sfnt_font.specs.Names.{font_names}
 use Rattle.sfnt_font.specs.Fonts.{font_of}
 use Rattle.sfnt_font.specs.Laws.{face_directory}
 use Rattle.font_laws.specs.Laws.{AgreeOnDirectory, AreFontsAlike, AreAnswersAlike, BytesBehindChangeNothing}
-use Rattle.font_laws.proofs.SameTables.{AreSameReadings, AgreeOnTables, IsListed, faces_same, place_same, directory_same, tables_same}
+use Rattle.font_laws.proofs.SameTables.{AreSameReadings, AgreeOnOutlines, AgreeOnTables, IsListed, faces_same, place_same, directory_same, tables_same}
 use Rattle.font_laws.proofs.SameNumbers.{IsAnything, numbers_same}
 use Rattle.font_laws.proofs.SameMaps.{IsMapOf, AreSegments, map_of_same, segments_same}
 use Rattle.font_laws.proofs.SameNames.{font_names_same}
 use Rattle.font_laws.proofs.SameGlyphs.{font_keeping, ShareTables, glyphs_same, advance_same, stretch_same}
 use Rattle.font_laws.proofs.SameContours.{contours_same}
+use Rattle.font_laws.proofs.SameCharstrings.{cff_blank_same, cff_contours_same}
 
 -- one reading behind another, whose answers are alike
 then_alike : {T : Type 0} (P : T → Type 0) (r s : Result T SfntRefusal) (f g : T → Result SfntFont SfntRefusal) → AreSameReadings P r s →
@@ -44,6 +45,8 @@ fonts_alike a b tables numbers m segments names h = record {
   advances = λ glyph. advance_same a b tables.hmtx numbers.advances glyph h.agree.hmtx.0;
   blanks = λ glyph. ap is_none (stretch_same a b tables numbers m segments names glyph h.agree);
   contours = λ glyph. contours_same a b tables numbers m segments names glyph h.agree;
+  strokes = λ cff glyph is. cff_contours_same a b cff glyph (subst (AgreeOnOutlines a b) is h.agree.outlines);
+  blank_strokes = λ cff glyph is. cff_blank_same a b cff glyph (subst (AgreeOnOutlines a b) is h.agree.outlines);
 }
 
 named_alike : (a b : List ℕ) (tables : Tables) (numbers : Numbers) (m : CharacterMap) (segments : List Segment) (names other : FontNames) → names ≡ other → ShareTables a b tables m segments →

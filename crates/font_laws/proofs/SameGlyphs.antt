@@ -12,16 +12,18 @@ use Rattle.sfnt_font.specs.declared.maps.MapFormat.TheVariants.{Ranges, Groups}
 use Rattle.sfnt_font.specs.declared.numbers.Numbers.{Numbers}
 use Rattle.sfnt_font.specs.declared.segments.Segment.{Segment}
 use Rattle.sfnt_glyphs.specs.declared.stretch.Stretch.{Stretch}
+use Rattle.sfnt_font.specs.declared.tables.Outlines.{Outlines}
+use Rattle.sfnt_font.specs.declared.tables.Outlines.TheVariants.{TrueTypeOutlines, PostScriptOutlines}
 use Rattle.sfnt_font.specs.declared.tables.Tables.{Tables}
-use Rattle.sfnt_font.specs.Bytes.{u16_at, u32_at}
+use Rattle.font_bytes.specs.Bytes.{u16_at, u32_at}
 use Rattle.sfnt_font.specs.Directory.{table_end}
 use Rattle.sfnt_font.specs.Maps.{group_place, first_code_place, shift_place, offset_place}
 use Rattle.sfnt_font.specs.Fonts.{segment_from, segment_of, shifted_glyph, listed_glyph, glyph_by_offset, segment_glyph, held_glyph, glyph_or_none, mapped_glyph, is_symbol_code, glyph_number}
 use Rattle.sfnt_glyphs.specs.Metrics.{advance_at, entry_advance, bearing_at, bearing_in}
-use Rattle.sfnt_glyphs.specs.Glyphs.{wide_place, narrow_place, stretch_between, glyph_stretch}
+use Rattle.sfnt_glyphs.specs.Glyphs.{wide_place, narrow_place, stretch_between, outline_stretch, glyph_stretch}
 use Rattle.font_laws.specs.Laws.{AgreeOnTable}
 use Rattle.font_laws.proofs.Agreed.{u16_same, u32_same, s16_same, if_same}
-use Rattle.font_laws.proofs.SameTables.{AgreeOnTables}
+use Rattle.font_laws.proofs.SameTables.{AgreeOnOutlines, AgreeOnTables}
 use Rattle.font_laws.proofs.SameMaps.{IsMapOf, entry_bytes}
 
 -- a font that keeps these bytes
@@ -141,11 +143,16 @@ place_in_same : (a b : List ℕ) (loca : Table) (wide : Bool) (g : ℕ) → Agre
 place_in_same a b loca true g h = wide_place_same a b loca g h
 place_in_same a b loca false g h = narrow_place_same a b loca g h
 
+stretch_by_same : (a b : List ℕ) (tables : Tables) (numbers : Numbers) (m : CharacterMap) (segments : List Segment) (names : FontNames) (g : ℕ) (outlines : Outlines) → AgreeOnOutlines a b outlines →
+    outline_stretch (font_keeping a tables numbers m segments names) outlines g ≡ outline_stretch (font_keeping b tables numbers m segments names) outlines g
+stretch_by_same a b tables numbers m segments names g (TrueTypeOutlines loca glyf) h =
+    ap (λ o. stretch_between glyf o (cond numbers.wide_places (wide_place a loca (g + 1)) (narrow_place a loca (g + 1)))) (place_in_same a b loca numbers.wide_places g h.0.0)
+    ∙ ap (stretch_between glyf (cond numbers.wide_places (wide_place b loca g) (narrow_place b loca g))) (place_in_same a b loca numbers.wide_places (g + 1) h.0.0)
+stretch_by_same a b tables numbers m segments names g (PostScriptOutlines cff) h = refl
+
 pub stretch_same : (a b : List ℕ) (tables : Tables) (numbers : Numbers) (m : CharacterMap) (segments : List Segment) (names : FontNames) (g : ℕ) → AgreeOnTables a b tables →
     glyph_stretch (font_keeping a tables numbers m segments names) g ≡ glyph_stretch (font_keeping b tables numbers m segments names) g
-stretch_same a b tables numbers m segments names g h =
-    ap (λ o. stretch_between tables.glyf o (cond numbers.wide_places (wide_place a tables.loca (g + 1)) (narrow_place a tables.loca (g + 1)))) (place_in_same a b tables.loca numbers.wide_places g h.loca.0)
-    ∙ ap (stretch_between tables.glyf (cond numbers.wide_places (wide_place b tables.loca g) (narrow_place b tables.loca g))) (place_in_same a b tables.loca numbers.wide_places (g + 1) h.loca.0)
+stretch_same a b tables numbers m segments names g h = stretch_by_same a b tables numbers m segments names g tables.outlines h.outlines
 
 -- A stretch that lies in a table.
 abbrev pub IsStretchOf : Table → Stretch → Type 0

@@ -12,7 +12,7 @@ use Rattle.sfnt_font.specs.declared.maps.Choice.{Choice}
 use Rattle.sfnt_font.specs.declared.maps.MapFormat.{MapFormat}
 use Rattle.sfnt_font.specs.declared.maps.MapFormat.TheVariants.{Ranges, Groups}
 use Rattle.sfnt_font.specs.declared.segments.Segment.{Segment}
-use Rattle.sfnt_font.specs.Bytes.{u16_at, u32_at}
+use Rattle.font_bytes.specs.Bytes.{u16_at, u32_at}
 use Rattle.sfnt_font.specs.Directory.{table_end}
 use Rattle.sfnt_font.specs.Maps.{choice_at, is_read_map, no_choice, no_rank, better, best_map, map_rank, unless_none, chosen_map, groups_map, ranges_map, whole_map, map_of, segment_at, segment_in, segments_from, segments_of, codes_to, symbol_rank, group_place, last_code_place, first_code_place}
 use Rattle.font_laws.specs.Laws.{AgreeOn, AgreeOnTable}

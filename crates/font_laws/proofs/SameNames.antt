@@ -4,13 +4,13 @@ use Rattle.std.specs.Prelude.{nat_le, ◌==◌, IfSome}
 use Rattle.std.specs.List.{range_with_len}
 use Rattle.std.proofs.lemmas.Bool.{and_parts, leb-true}
 use Rattle.sfnt_font.specs.declared.directory.Table.{Table}
-use Rattle.sfnt_font.specs.Bytes.{u8_at, u16_at}
-use Rattle.sfnt_font.specs.Directory.{table_end, table_named, unless_short}
-use Rattle.sfnt_font.specs.Names.{names_name, least_names, max_names, family_kind, full_kind, name_rank, text_place, is_whole_name, is_name, records_from, mac_character, narrow_unit, wide_unit, narrow_units, wide_units, name_units, spelled, record_name, ranked_names, names_or_none, font_names}
+use Rattle.font_bytes.specs.Bytes.{u8_at, u16_at}
+use Rattle.sfnt_font.specs.Directory.{is_post_script, table_end, table_named, unless_short}
+use Rattle.sfnt_font.specs.Names.{names_name, least_names, max_names, family_kind, name_rank, text_place, is_whole_name, is_name, records_from, mac_character, narrow_unit, wide_unit, narrow_units, wide_units, name_units, spelled, record_name, ranked_names, whole_kind, names_or_none, font_names}
 use Rattle.sfnt_font.specs.Laws.{face_directory}
 use Rattle.font_laws.specs.Laws.{AgreeOn, AgreeOnDirectory}
 use Rattle.font_laws.proofs.Agreed.{u8_same, u16_same, and_same}
-use Rattle.font_laws.proofs.SameTables.{AgreeOnLong, long_agrees, named_same}
+use Rattle.font_laws.proofs.SameTables.{AgreeOnLong, long_agrees, named_same, post_script_same}
 
 -- where the text of a record is
 text_place_same : (a b : List ℕ) (names : Table) (at : ℕ) → AgreeOnLong a b 6 names → names.place ≤ at → at + 12 ≤ table_end names → text_place a names at ≡ text_place b names at
@@ -125,15 +125,19 @@ names_same a b names kind rank most (h, long) =
     from_same a b names kind rank (names.place + 6) (u16_at a (names.place + 2)) most (h, long) (omega arith)
     ∙ ap (λ n. map (record_name b names) (take most (records_from b names kind rank (names.place + 6) n))) count
 
-table_names_same : (a b : List ℕ) (o : Option Table) → IfSome o (AgreeOnLong a b 6) → names_or_none a o ≡ names_or_none b o
-table_names_same a b None h = refl
-table_names_same a b (Some names) h =
+table_names_same : (a b : List ℕ) (is_post_script : Bool) (o : Option Table) → IfSome o (AgreeOnLong a b 6) → names_or_none a is_post_script o ≡ names_or_none b is_post_script o
+table_names_same a b is_post_script None h = refl
+table_names_same a b is_post_script (Some names) h =
+    let kind = whole_kind is_post_script in
     let families : ranked_names a names family_kind 0 max_names ≡ ranked_names b names family_kind 0 max_names = names_same a b names family_kind 0 max_names h in
     let others : ranked_names a names family_kind 1 1 ≡ ranked_names b names family_kind 1 1 = names_same a b names family_kind 1 1 h in
-    let full : ranked_names a names full_kind 0 max_names ≡ ranked_names b names full_kind 0 max_names = names_same a b names full_kind 0 max_names h in
+    let full : ranked_names a names kind 0 max_names ≡ ranked_names b names kind 0 max_names = names_same a b names kind 0 max_names h in
     rw (families, others, full)
 
 pub font_names_same : (a b : List ℕ) (place : ℕ) → AgreeOnDirectory a b place → font_names a (face_directory a place) ≡ font_names b (face_directory a place)
 font_names_same a b place h =
-    table_names_same a b (unless_short least_names (table_named a (face_directory a place) names_name)) (long_agrees a b least_names (table_named a (face_directory a place) names_name) h.names)
-    ∙ ap (λ o. names_or_none b (unless_short least_names o)) (named_same a b place names_name h)
+    let directory = face_directory a place in
+    let named = unless_short least_names (table_named a directory names_name) in
+    table_names_same a b (is_post_script a directory) named (long_agrees a b least_names (table_named a directory names_name) h.names)
+    ∙ (ap (λ t. names_or_none b t named) (post_script_same a b place h)
+    ∙ ap (λ o. names_or_none b (is_post_script b directory) (unless_short least_names o)) (named_same a b place names_name h))

@@ -4,7 +4,7 @@ use Rattle.std.specs.Prelude.{◌==◌, IfSome}
 use Rattle.sfnt_font.specs.declared.directory.Table.{Table}
 use Rattle.sfnt_font.specs.declared.numbers.Bar.{Bar}
 use Rattle.sfnt_font.specs.declared.tables.Tables.{Tables}
-use Rattle.sfnt_font.specs.Bytes.{u16_at, s16_at}
+use Rattle.font_bytes.specs.Bytes.{u16_at, s16_at}
 use Rattle.sfnt_font.specs.Directory.{table_named, unless_short, table_end, metrics_name, post_name}
 use Rattle.sfnt_font.specs.Numbers.{window_heights, typographic_heights, line_heights, box_heights, font_heights, bar_or, underline_of, strikeout_of, made_numbers, sfnt_numbers, has_low_bit, style_weight, weight_of, is_slanted}
 use Rattle.sfnt_font.specs.Laws.{face_directory}

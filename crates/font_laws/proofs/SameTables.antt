@@ -1,5 +1,5 @@
 -- Where two files agree on a face, its directory names the same tables in both, and these agree.
-use Rattle.std.proofs.Common.{◌≡◌, ℕ, zero, suc, ◌+◌, ◌*◌, ◌<◌, ◌≤◌, List, length, Bool, true, false, cond, ◌&&◌, ◌||◌, not, Option, Some, None, Result, Ok, Err, refl, ap, sym, subst, ◌∙◌, arith}
+use Rattle.std.proofs.Common.{◌≡◌, ℕ, zero, suc, ◌+◌, ◌*◌, ◌<◌, ◌≤◌, List, length, Bool, true, false, cond, ◌&&◌, not, Option, Some, None, Result, Ok, Err, refl, ap, sym, subst, ◌∙◌, arith}
 use Rattle.std.specs.Prelude.{nat_lt, ◌==◌, is_some, IfOk, IfSome}
 use Rattle.std.proofs.lemmas.Bool.{ltb-false}
 use Rattle.sfnt_font.specs.declared.cause.Tag.{Tag}
@@ -8,14 +8,20 @@ use Rattle.sfnt_font.specs.declared.cause.SfntCause.TheVariants.{Ends}
 use Rattle.sfnt_font.specs.declared.cause.SfntRefusal.{SfntRefusal}
 use Rattle.sfnt_font.specs.declared.cause.SfntRefusal.TheVariants.{BadFont}
 use Rattle.sfnt_font.specs.declared.directory.Table.{Table}
+use Rattle.sfnt_font.specs.declared.tables.Outlines.{Outlines}
+use Rattle.sfnt_font.specs.declared.tables.Outlines.TheVariants.{TrueTypeOutlines, PostScriptOutlines}
 use Rattle.sfnt_font.specs.declared.tables.Tables.{Tables}
+use Rattle.cff_font.specs.declared.cause.CffRefusal.{CffRefusal}
+use Rattle.cff_font.specs.declared.read.CffFont.{CffFont}
 use Rattle.sfnt_font.specs.Answers.{then_read}
-use Rattle.sfnt_font.specs.Bytes.{u16_at, u32_at}
-use Rattle.sfnt_font.specs.Faces.{bad_face, collection_kind, collection_count, face_count, face_place, is_compressed, is_true_type, max_faces, open_kind, unless_misplaced}
-use Rattle.sfnt_font.specs.Directory.{directory_at, whole_directory, table_at, is_table, table_from, table_named, name_of, least_size, needed_or, needed_table, is_post_script, tables_of, unless_short, directory_end, cff_name, cff2_name}
+use Rattle.font_bytes.specs.Bytes.{u16_at, u32_at}
+use Rattle.sfnt_font.specs.Faces.{bad_face, collection_kind, collection_count, face_count, face_place, is_compressed, is_face_kind, max_faces, unless_misplaced}
+use Rattle.sfnt_font.specs.Directory.{directory_at, whole_directory, table_at, is_table, table_from, table_named, name_of, least_size, needed_or, needed_table, is_post_script, is_second_version, outlines_by, outlines_of, outlines_read, table_end, table_span, true_type_outlines, tables_of, unless_short, directory_end, cff_name, cff2_name}
 use Rattle.sfnt_font.specs.Laws.{face_directory, is_collection}
 use Rattle.font_laws.specs.Laws.{AgreeOn, AgreeOnTable, AgreeOnDirectory, head_end}
 use Rattle.font_laws.proofs.Agreed.{u16_same, u32_same, if_same}
+use Rattle.font_laws.proofs.SameCff.{AreFound, IsFontFrom, cff_both}
+use Rattle.font_laws.proofs.SameCharstrings.{IsWholeFont}
 
 -- Two readings give one answer, and a value of which this holds.
 pub record AreSameReadings {T : Type 0} (P : T → Type 0) (r s : Result T SfntRefusal) : Type 0 where
@@ -118,9 +124,8 @@ pub directory_same : (a b : List ℕ) (place : ℕ) → AgreeOnDirectory a b pla
 directory_same a b place h =
     let kind : u32_at a place ≡ u32_at b place = u32_same a b place (directory_end (face_directory a place)) place h.entries (omega arith) (omega arith) in
     let count : u16_at a (place + 4) ≡ u16_at b (place + 4) = u16_same a b place (directory_end (face_directory a place)) (place + 4) h.entries (omega arith) (omega arith) in
-    test_same _ (u32_at a place == open_kind) (u32_at b place == open_kind) _ _ _ _ (ap (λ n. n == open_kind) kind) (λ _. both_refused _ _) (λ _.
-    test_same _ (not (is_true_type (u32_at a place))) (not (is_true_type (u32_at b place))) _ _ _ _ (ap (λ n. not (is_true_type n)) kind) (λ _. both_refused _ _) (λ _.
-    whole_same count))
+    test_same _ (not (is_face_kind (u32_at a place))) (not (is_face_kind (u32_at b place))) _ _ _ _ (ap (λ n. not (is_face_kind n)) kind) (λ _. both_refused _ _) (λ _.
+    whole_same count)
   where
     counted : (n : ℕ) → u16_at a (place + 4) ≡ n → AreSameReadings (λ directory. directory ≡ face_directory a place) (whole_directory a (place + 12) n) (whole_directory b (place + 12) n)
     counted n is =
@@ -179,14 +184,54 @@ needed_same a b place tag h =
     subst (λ (o : Option Table). AreSameReadings (AgreeOnLong a b (least_size tag)) (needed_table a (face_directory a place) tag) (needed_or (directory_end (face_directory a place)) tag o))
     (named_same a b place (name_of tag) h) (needed_or_same a b (directory_end (face_directory a place)) tag (table_named a (face_directory a place) (name_of tag)) (h.needed tag))
 
-post_script_same : (a b : List ℕ) (place : ℕ) → AgreeOnDirectory a b place → is_post_script a (face_directory a place) ≡ is_post_script b (face_directory a place)
+pub post_script_same : (a b : List ℕ) (place : ℕ) → AgreeOnDirectory a b place → is_post_script a (face_directory a place) ≡ is_post_script b (face_directory a place)
 post_script_same a b place h =
-    let glyf = named_same a b place (name_of Glyf) h in
-    let cff = named_same a b place cff_name h in
-    let cff2 = named_same a b place cff2_name h in
-    ap (λ o. not (is_some o) && (is_some (table_named a (face_directory a place) cff_name) || is_some (table_named a (face_directory a place) cff2_name))) glyf
-    ∙ (ap (λ o. not (is_some (table_named b (face_directory a place) (name_of Glyf))) && (is_some o || is_some (table_named a (face_directory a place) cff2_name))) cff
-    ∙ ap (λ o. not (is_some (table_named b (face_directory a place) (name_of Glyf))) && (is_some (table_named b (face_directory a place) cff_name) || is_some o)) cff2)
+    ap (λ o. not (is_some o) && is_some (table_named a (face_directory a place) cff_name)) (named_same a b place (name_of Glyf) h)
+    ∙ ap (λ o. not (is_some (table_named b (face_directory a place) (name_of Glyf))) && is_some o) (named_same a b place cff_name h)
+
+second_version_same : (a b : List ℕ) (place : ℕ) → AgreeOnDirectory a b place → is_second_version a (face_directory a place) ≡ is_second_version b (face_directory a place)
+second_version_same a b place h =
+    let directory = face_directory a place in
+    ap (λ o. not (is_some o) && not (is_some (table_named a directory cff_name)) && is_some (table_named a directory cff2_name)) (named_same a b place (name_of Glyf) h)
+    ∙ (ap (λ o. not (is_some (table_named b directory (name_of Glyf))) && not (is_some o) && is_some (table_named a directory cff2_name)) (named_same a b place cff_name h)
+    ∙ ap (λ o. not (is_some (table_named b directory (name_of Glyf))) && not (is_some (table_named b directory cff_name)) && is_some o) (named_same a b place cff2_name h))
+
+-- ---- outlines
+
+-- They agree on what outlines are drawn from.
+abbrev pub AgreeOnOutlines : List ℕ → List ℕ → Outlines → Type 0
+AgreeOnOutlines a b (TrueTypeOutlines loca glyf) = AgreeOnLong a b 0 loca × AgreeOnLong a b 0 glyf
+AgreeOnOutlines a b (PostScriptOutlines font) = IsWholeFont a b font
+
+true_type_same : (a b : List ℕ) (place : ℕ) → AgreeOnDirectory a b place →
+    AreSameReadings (AgreeOnOutlines a b) (true_type_outlines a (face_directory a place)) (true_type_outlines b (face_directory a place))
+true_type_same a b place h =
+    then_same (AgreeOnLong a b 0) (AgreeOnOutlines a b) _ _ _ _ (needed_same a b place Loca h) (λ loca loca_agrees.
+    then_same (AgreeOnLong a b 0) (AgreeOnOutlines a b) _ _ _ _ (needed_same a b place Glyf h) (λ glyf glyf_agrees. record { same = refl; holds = (loca_agrees, glyf_agrees) }))
+
+whole_font : (a b : List ℕ) (from to : ℕ) (font : CffFont) → AgreeOn a b from to → IsFontFrom from to font → IsWholeFont a b font
+whole_font a b from to font h is = record { agree = rw (is.place, is.stop) h; is = subst (λ p. IsFontFrom p font.stop font) (sym is.place) (subst (λ t. IsFontFrom from t font) (sym is.stop) is) }
+
+cff_read_same : (a b : List ℕ) (from to : ℕ) (r s : Result CffFont CffRefusal) → AgreeOn a b from to → AreFound (IsFontFrom from to) r s → AreSameReadings (AgreeOnOutlines a b) (outlines_read r) (outlines_read s)
+cff_read_same a b from to (Ok font) s h both = record { same = ap outlines_read both.same; holds = whole_font a b from to font h both.holds }
+cff_read_same a b from to (Err refusal) s h both = record { same = ap outlines_read both.same; holds = tt }
+
+by_same : (a b : List ℕ) (place : ℕ) (glyf cff : Option Table) → AgreeOnDirectory a b place → IfSome cff (AgreeOnTable a b) →
+    AreSameReadings (AgreeOnOutlines a b) (outlines_by a (face_directory a place) glyf cff) (outlines_by b (face_directory a place) glyf cff)
+by_same a b place None (Some cff) h agrees = cff_read_same a b cff.place (table_end cff) _ _ agrees (cff_both a b (table_span cff) agrees)
+by_same a b place None None h agrees = true_type_same a b place h
+by_same a b place (Some glyf) None h agrees = true_type_same a b place h
+by_same a b place (Some glyf) (Some cff) h agrees = true_type_same a b place h
+
+outlines_same : (a b : List ℕ) (place : ℕ) → AgreeOnDirectory a b place → AreSameReadings (AgreeOnOutlines a b) (outlines_of a (face_directory a place)) (outlines_of b (face_directory a place))
+outlines_same a b place h =
+    let directory = face_directory a place in
+    let by = by_same a b place (table_named a directory (name_of Glyf)) (table_named a directory cff_name) h h.outlines in
+    record {
+      same = by.same ∙ (ap (λ o. outlines_by b directory o (table_named a directory cff_name)) (named_same a b place (name_of Glyf) h)
+          ∙ ap (outlines_by b directory (table_named b directory (name_of Glyf))) (named_same a b place cff_name h));
+      holds = by.holds;
+    }
 
 -- They agree on the tables of a font.
 pub record AgreeOnTables (a b : List ℕ) (tables : Tables) : Type 0 where
@@ -194,18 +239,16 @@ pub record AgreeOnTables (a b : List ℕ) (tables : Tables) : Type 0 where
   pub maxp : AgreeOnLong a b 6 tables.maxp
   pub hhea : AgreeOnLong a b 36 tables.hhea
   pub hmtx : AgreeOnLong a b 0 tables.hmtx
-  pub loca : AgreeOnLong a b 0 tables.loca
-  pub glyf : AgreeOnLong a b 0 tables.glyf
+  pub outlines : AgreeOnOutlines a b tables.outlines
   pub cmap : AgreeOnLong a b 4 tables.cmap
 
 pub tables_same : (a b : List ℕ) (place : ℕ) → AgreeOnDirectory a b place → AreSameReadings (AgreeOnTables a b) (tables_of a (face_directory a place)) (tables_of b (face_directory a place))
 tables_same a b place h =
-    test_same _ (is_post_script a (face_directory a place)) (is_post_script b (face_directory a place)) _ _ _ _ (post_script_same a b place h) (λ _. both_refused _ _) (λ _.
+    test_same _ (is_second_version a (face_directory a place)) (is_second_version b (face_directory a place)) _ _ _ _ (second_version_same a b place h) (λ _. both_refused _ _) (λ _.
     then_same (AgreeOnLong a b 54) (AgreeOnTables a b) _ _ _ _ (needed_same a b place Head h) (λ head head_agrees.
     then_same (AgreeOnLong a b 6) (AgreeOnTables a b) _ _ _ _ (needed_same a b place Maxp h) (λ maxp maxp_agrees.
     then_same (AgreeOnLong a b 36) (AgreeOnTables a b) _ _ _ _ (needed_same a b place Hhea h) (λ hhea hhea_agrees.
     then_same (AgreeOnLong a b 0) (AgreeOnTables a b) _ _ _ _ (needed_same a b place Hmtx h) (λ hmtx hmtx_agrees.
-    then_same (AgreeOnLong a b 0) (AgreeOnTables a b) _ _ _ _ (needed_same a b place Loca h) (λ loca loca_agrees.
-    then_same (AgreeOnLong a b 0) (AgreeOnTables a b) _ _ _ _ (needed_same a b place Glyf h) (λ glyf glyf_agrees.
+    then_same (AgreeOnOutlines a b) (AgreeOnTables a b) _ _ _ _ (outlines_same a b place h) (λ outlines outlines_agree.
     then_same (AgreeOnLong a b 4) (AgreeOnTables a b) _ _ _ _ (needed_same a b place Cmap h) (λ cmap cmap_agrees.
-    record { same = refl; holds = record { head = head_agrees; maxp = maxp_agrees; hhea = hhea_agrees; hmtx = hmtx_agrees; loca = loca_agrees; glyf = glyf_agrees; cmap = cmap_agrees } }))))))))
+    record { same = refl; holds = record { head = head_agrees; maxp = maxp_agrees; hhea = hhea_agrees; hmtx = hmtx_agrees; outlines = outlines_agree; cmap = cmap_agrees } })))))))

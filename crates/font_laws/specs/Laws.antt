@@ -5,9 +5,12 @@ use Rattle.sfnt_font.specs.declared.cause.SfntRefusal.{SfntRefusal}
 use Rattle.sfnt_font.specs.declared.directory.Directory.{Directory}
 use Rattle.sfnt_font.specs.declared.directory.Table.{Table}
 use Rattle.sfnt_font.specs.declared.font.SfntFont.{SfntFont}
-use Rattle.sfnt_font.specs.Bytes.{u8_at, u32_at}
+use Rattle.sfnt_font.specs.declared.tables.Outlines.TheVariants.{PostScriptOutlines}
+use Rattle.cff_font.specs.declared.read.CffFont.{CffFont}
+use Rattle.cff_font.specs.Glyphs.{cff_contours, is_blank_at_sight}
+use Rattle.font_bytes.specs.Bytes.{u8_at, u32_at}
 use Rattle.sfnt_font.specs.Faces.{face_count, face_place}
-use Rattle.sfnt_font.specs.Directory.{directory_end, table_end, table_named, name_of, metrics_name, post_name}
+use Rattle.sfnt_font.specs.Directory.{cff_name, directory_end, table_end, table_named, name_of, metrics_name, post_name}
 use Rattle.sfnt_font.specs.Names.{names_name}
 use Rattle.sfnt_font.specs.Fonts.{sfnt_of, glyph_number}
 use Rattle.sfnt_font.specs.Codes.{font_codes}
@@ -38,6 +41,7 @@ pub record AgreeOnDirectory (a b : List ℕ) (place : ℕ) : Type 0 where
   pub head : AgreeOn a b 0 (head_end a)
   pub entries : AgreeOn a b place (directory_end (face_directory a place))
   pub needed : (tag : Tag) → AgreeOnNamed a b (face_directory a place) (name_of tag)
+  pub outlines : AgreeOnNamed a b (face_directory a place) cff_name
   pub metrics : AgreeOnNamed a b (face_directory a place) metrics_name
   pub post : AgreeOnNamed a b (face_directory a place) post_name
   pub names : AgreeOnNamed a b (face_directory a place) names_name
@@ -57,6 +61,8 @@ pub record AreFontsAlike (f g : SfntFont) : Type 0 where
   pub advances : (glyph : ℕ) → advance_of f glyph ≡ advance_of g glyph
   pub blanks : (glyph : ℕ) → is_blank_glyph f glyph ≡ is_blank_glyph g glyph
   pub contours : (glyph : ℕ) → contours_of f glyph ≡ contours_of g glyph
+  pub strokes : (cff : CffFont) (glyph : ℕ) → f.tables.outlines ≡ PostScriptOutlines cff → cff_contours f.bytes cff glyph ≡ cff_contours g.bytes cff glyph
+  pub blank_strokes : (cff : CffFont) (glyph : ℕ) → f.tables.outlines ≡ PostScriptOutlines cff → is_blank_at_sight f.bytes cff glyph ≡ is_blank_at_sight g.bytes cff glyph
 
 -- the same fault, or fonts alike
 abbrev pub AreAnswersAlike : Result SfntFont SfntRefusal → Result SfntFont SfntRefusal → Type 0
