@@ -3,3 +3,4 @@ pub mod FigureLemmas
 pub mod QuadLemmas
 pub mod RunLemmas
 pub mod ShapeLemmas
+pub mod StrokeRings

@@ -202,7 +202,7 @@ fn scaled_length(a: i64, u: i64) -> i64
 }
 
 /// How far a step to the right moves a point once it is scaled.
-fn bold_shift(m: &Matrix, step: i64) -> i64
+pub fn bold_shift(m: &Matrix, step: i64) -> i64
     requires matrix { IsMatrix m.now }
     requires step { IsWithin max_pixel step }
     ensures value { result ≡ bold_shift m.now step }

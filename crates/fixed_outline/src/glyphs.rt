@@ -3,15 +3,17 @@
 ghost use Rattle.std.specs.Prelude.{◌≡◌, ◌<◌, ◌≤◌, ◌+◌, ◌*◌, ◌++◌, length, pos, neg_ℤ, ◌+ℤ◌, ◌-ℤ◌, slice_get, Some, IfOk, OnOk};
 ghost use Rattle.ass_num.specs.Limits.{IsOutline, IsWithin};
 ghost use Rattle.bdf_font.specs.GlyphRings.{bitmap_of, rings_of_glyph, shape_rings};
-ghost use Rattle.bdf_font.specs.Pixels.{contours_in};
+ghost use Rattle.bdf_font.specs.Pixels.{contours_in, strokes_in};
 ghost use Rattle.bdf_font.specs.Ranges.{IsBitmap, IsFont};
 ghost use Rattle.outline_points.specs.Contours.{contour_rings};
+ghost use Rattle.outline_points.specs.CubicContours.{stroke_rings};
 ghost use Rattle.outline_points.specs.Placing.{IsMatrix};
 ghost use Rattle.outline_points.specs.Glyphs.{row_quads, bitmap_quads, pixel_quads, set_quads};
 ghost use Rattle.fixed_outline.specs.Limits.{max_corner, max_bitmap_bytes};
 
 use crate::bars::add_bars;
 use crate::contours::add_contours;
+use crate::strokes::add_stroke_rings;
 use crate::style::{Style, add_quad, style_of};
 use ass_num::{FlatLists, Matrix, Mem, Outline, Point};
 use bdf_font::{Font, Pixels};
@@ -145,18 +147,16 @@ pub fn contours_drawn(
     requires font { IsFont font.now }
     requires glyph { glyph < length font.now.glyphs }
     ensures value { IfOk result (λ rings. (g : _) → slice_get font.now.glyphs glyph ≡ Some g
-        → rings ≡ contour_rings style.now.matrix style.now.bold font.now.bold_step (contours_in g.shape)) }
+        → rings ≡ contour_rings style.now.matrix style.now.bold font.now.bold_step (contours_in g.shape)
+        ++ stroke_rings style.now.matrix style.now.bold font.now.bold_step (strokes_in g.shape)) }
     ensures within { IfOk result IsOutline }
 {
+    let step = i64::from(font.bold_step());
     let contours = font.contours_at(alloc, glyph)?;
+    let strokes = font.strokes_at(alloc, glyph)?;
     let mut rings = FlatLists::new(alloc);
-    add_contours(
-        alloc,
-        style,
-        i64::from(font.bold_step()),
-        &contours,
-        &mut rings,
-    )?;
+    add_contours(alloc, style, step, &contours, &mut rings)?;
+    add_stroke_rings(alloc, style, step, &strokes, &mut rings)?;
     Ok(rings)
 }
 

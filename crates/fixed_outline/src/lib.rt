@@ -7,6 +7,7 @@ mod contours;
 mod drawings;
 mod glyphs;
 mod runs;
+mod strokes;
 mod style;
 
 pub use ass_num::Matrix;
