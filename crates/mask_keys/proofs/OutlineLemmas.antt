@@ -18,10 +18,12 @@ use Rattle.mask_keys.specs.declared.outline_key.OutlineKey.{OutlineKey}
 use Rattle.mask_keys.specs.declared.outline_key.OutlineKey.TheVariants.{Glyph, Drawing, Box}
 use Rattle.outline_points.specs.Boxes.{box_corners, box_ring}
 use Rattle.outline_points.specs.Contours.{bold_shift, contour_points, contour_ring, moved_rings}
+use Rattle.outline_points.specs.CubicContours.{moved_stroke_rings, points_from, stroke_ring}
 use Rattle.outline_points.specs.Drawings.{drawing_rings}
 use Rattle.outline_points.specs.Glyphs.{Bitmap, quad, pixel_quad, set_quads, pixel_quads, row_quads, bitmap_quads, bar_quad, scaled_pixel, glyph_point}
 use Rattle.outline_points.specs.Placing.{held_coordinate, outline_point, shifted_point, turned_point}
 use Rattle.outline_points.specs.declared.glyph_point.GlyphPoint.{GlyphPoint}
+use Rattle.outline_points.specs.declared.stroke.Stroke.{Stroke}
 use Rattle.mask_keys.specs.Outlines.{rings_of, found_glyph_rings, found_font_rings}
 
 coordinate_within : (z : ℤ) → IsWithin max_coordinate (held_coordinate z)
@@ -80,11 +82,18 @@ bitmap_outline m bold bitmap = flat_rings (row_quads m bold bitmap) (row_outline
 moved_outline : (m : Matrix) (shift : ℤ) (contours : List (List GlyphPoint)) → IsOutline (moved_rings m shift contours)
 moved_outline m shift contours = All-map (All IsOutlinePoint) (contour_ring m shift) contours (λ k d l. placed_points (outline_point m.turn) (point_within m.turn) (contour_points m shift (get_or contours k d)))
 
+moved_strokes_outline : (m : Matrix) (shift : ℤ) (contours : List (List Stroke)) → IsOutline (moved_stroke_rings m shift contours)
+moved_strokes_outline m shift contours =
+    All-map (All IsOutlinePoint) (stroke_ring m shift) contours (λ k d l. placed_points (outline_point m.turn) (point_within m.turn) (points_from m shift (record { x = pos 0; y = pos 0 }) (get_or contours k d)))
+
 shape_outline : (m : Matrix) (bold : Bool) (step : ℤ) (s : GlyphShape) → IsOutline (shape_rings m bold step s)
 shape_outline m bold step (shape.Pixels pixels) = bitmap_outline m bold (bitmap_of pixels)
 shape_outline m bold step (shape.Contours contours) =
     All-append (All IsOutlinePoint) (moved_rings m (pos 0) contours) (if bold then moved_rings m (bold_shift m step) contours else []) (moved_outline m (pos 0) contours)
     (maybe_rings bold (moved_rings m (bold_shift m step) contours) (moved_outline m (bold_shift m step) contours))
+shape_outline m bold step (shape.Strokes contours) =
+    All-append (All IsOutlinePoint) (moved_stroke_rings m (pos 0) contours) (if bold then moved_stroke_rings m (bold_shift m step) contours else []) (moved_strokes_outline m (pos 0) contours)
+    (maybe_rings bold (moved_stroke_rings m (bold_shift m step) contours) (moved_strokes_outline m (bold_shift m step) contours))
 
 bar_outline : (m : Matrix) (wanted : Bool) (advance : ℤ) (bar : Option Bar) → IsOutline (bar_rings m wanted advance bar)
 bar_outline m false advance bar = All-nil (All IsOutlinePoint)
