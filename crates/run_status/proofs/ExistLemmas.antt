@@ -19,7 +19,7 @@ use Rattle.sfnt_font.specs.declared.cause.SfntRefusal.{SfntRefusal}
 use Rattle.sfnt_font.specs.declared.cause.SfntRefusal.TheVariants as bytes
 use Rattle.sfnt_font.specs.declared.font.SfntFont.{SfntFont}
 use Rattle.sfnt_font.specs.Answers.{then_read}
-use Rattle.sfnt_font.specs.Bytes.{u32_at}
+use Rattle.font_bytes.specs.Bytes.{u32_at}
 use Rattle.sfnt_font.specs.Directory.{directory_at}
 use Rattle.sfnt_font.specs.Faces.{face_count, face_place, is_sfnt_kind}
 use Rattle.sfnt_font.specs.Fonts.{font_of, sfnt_of, sfnts_from, sfnts_of}

@@ -2,6 +2,8 @@
 use Rattle.std.specs.Prelude.{ℕ, List, ◌++◌, codes, decimal}
 use Rattle.bdf_font.specs.declared.cause.FontCause.{FontCause}
 use Rattle.bdf_font.specs.declared.cause.FontCause.TheVariants as lines
+use Rattle.cff_font.specs.declared.cause.CffCause.{CffCause}
+use Rattle.cff_font.specs.declared.cause.CffCause.TheVariants.{Short, Version, BadIndex, BadDict}
 use Rattle.sfnt_font.specs.declared.cause.SfntCause.{SfntCause}
 use Rattle.sfnt_font.specs.declared.cause.SfntCause.TheVariants as bytes
 use Rattle.sfnt_font.specs.declared.cause.Tag.{Tag}
@@ -29,12 +31,20 @@ tag_text Loca = codes "loca"
 tag_text Glyf = codes "glyf"
 tag_text Cmap = codes "cmap"
 
+-- how a table of PostScript outlines isn't one
+abbrev pub outlines_text : CffCause → List ℕ
+outlines_text Short = codes "short table CFF"
+outlines_text Version = codes "version of CFF"
+outlines_text BadIndex = codes "bad INDEX"
+outlines_text BadDict = codes "bad DICT"
+
 -- how bytes do
 abbrev pub byte_cause_text : SfntCause → List ℕ
 byte_cause_text bytes.Compressed = codes "compressed"
 byte_cause_text bytes.Ends = codes "ends"
 byte_cause_text bytes.BadPlace = codes "bad place"
 byte_cause_text bytes.PostScript = codes "PostScript"
+byte_cause_text (bytes.BadOutlines cause) = outlines_text cause
 byte_cause_text bytes.NotSfnt = codes "not TrueType"
 byte_cause_text (bytes.NoTable tag) = codes "no table " ++ tag_text tag
 byte_cause_text (bytes.ShortTable tag) = codes "short table " ++ tag_text tag

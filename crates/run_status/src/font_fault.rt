@@ -1,10 +1,11 @@
 //! Where a font's file leaves its format.
 
 ghost use Rattle.std.specs.Prelude.{◌≡◌, ◌++◌, IfOk, codes, string_bytes};
-ghost use Rattle.run_status.specs.FontFaults.{bad_font_line, byte_cause_text, line_cause_text, place_text, tag_text};
+ghost use Rattle.run_status.specs.FontFaults.{bad_font_line, byte_cause_text, line_cause_text, outlines_text, place_text, tag_text};
 
 use ass_num::Mem;
 use bdf_font::FontCause;
+use cff_font::CffCause;
 use sfnt_font::{SfntCause, Tag};
 use std::alloc::Global;
 
@@ -69,6 +70,18 @@ fn short_table_text(tag: Tag) -> &'static str
     }
 }
 
+/// How a table of PostScript outlines isn't one, in words.
+fn outlines_text(cause: CffCause) -> &'static str
+    ensures { result.now ≡ outlines_text cause }
+{
+    match cause {
+        CffCause::Short => "short table CFF",
+        CffCause::Version => "version of CFF",
+        CffCause::BadIndex => "bad INDEX",
+        CffCause::BadDict => "bad DICT",
+    }
+}
+
 /// How the bytes of a TrueType font leave the format, in words.
 fn byte_cause_text(cause: SfntCause) -> &'static str
     ensures { result.now ≡ byte_cause_text cause }
@@ -78,6 +91,7 @@ fn byte_cause_text(cause: SfntCause) -> &'static str
         SfntCause::Ends => "ends",
         SfntCause::BadPlace => "bad place",
         SfntCause::PostScript => "PostScript",
+        SfntCause::BadOutlines(cause) => outlines_text(cause),
         SfntCause::NotSfnt => "not TrueType",
         SfntCause::NoTable(tag) => no_table_text(tag),
         SfntCause::ShortTable(tag) => short_table_text(tag),
