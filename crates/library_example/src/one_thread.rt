@@ -3,6 +3,7 @@
 ghost use Rattle.ass_num.specs.Limits.{IsWithin, max_instant};
 
 use crate::showing::{FONT, FRAME, show};
+use alpha_canvas::AlphaForm;
 use ass_io::MAX_FILE_BYTES;
 use ass_num::Items;
 use bdf_font::read_fonts;
@@ -58,13 +59,29 @@ fn picture(alloc: Global, player: &mut Player, t: i64) -> Option<Canvas>
     player.draw(alloc, t, &FRAME).ok()
 }
 
-/// Prints the picture of an instant.
+/// The same picture over nothing, four bytes a pixel.
+fn picture_with_alpha(alloc: Global, player: &mut Player, t: i64) -> Option<Vec<u8>>
+    requires { IsWithin max_instant t }
+{
+    if player.font_count() == 0 {
+        return None;
+    }
+    player
+        .draw_alpha(alloc, t, &FRAME, AlphaForm::Straight)
+        .ok()
+}
+
+/// Prints the picture of an instant, on black and over nothing.
 pub fn run<R: Print>(rt: &R, alloc: Global) -> io::Result<()> {
     let Some(mut player) = opened(alloc) else {
         return println!(rt; "no player");
     };
     match picture(alloc, &mut player, 1_500) {
-        Some(canvas) => show(rt, alloc, &canvas),
-        None => println!(rt; "no picture"),
+        Some(canvas) => show(rt, alloc, canvas.pixels(), 3)?,
+        None => println!(rt; "no picture")?,
+    }
+    match picture_with_alpha(alloc, &mut player, 1_500) {
+        Some(bytes) => show(rt, alloc, bytes.as_slice(), 4),
+        None => println!(rt; "no picture with alpha"),
     }
 }

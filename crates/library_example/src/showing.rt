@@ -1,7 +1,8 @@
 //! What both programs show: a font with two letters, and a picture as rows of signs.
 
+ghost use Rattle.std.specs.Prelude.{◌<◌, ◌≤◌};
+
 use ass_num::Size;
-use blend::Canvas;
 use std::alloc::{AllocError, Global};
 use std::io;
 
@@ -36,20 +37,25 @@ ENDFONT
 
 pub const FRAME: Size = Size { w: 13, h: 9 };
 
-/// The signs of a row of pixels: a dot for black.
-fn signs_of(alloc: Global, row: &[u8]) -> Result<String, AllocError> {
+/// The signs of a row of pixels of so many bytes: a dot where all of them are 0.
+fn signs_of(alloc: Global, row: &[u8], pixel_bytes: usize) -> Result<String, AllocError>
+    requires { 0 < pixel_bytes }
+{
     let mut signs = String::new(alloc);
-    for pixel in row.chunks(3) {
-        let is_black = pixel.iter().all(|byte| *byte == 0);
-        signs.push(if is_black { '.' } else { '#' })?;
+    for pixel in row.chunks(pixel_bytes) {
+        let is_clear = pixel.iter().all(|byte| *byte == 0);
+        signs.push(if is_clear { '.' } else { '#' })?;
     }
     Ok(signs)
 }
 
-/// Prints a picture.
-pub fn show<R: Print>(rt: &R, alloc: Global, canvas: &Canvas) -> io::Result<()> {
-    for row in canvas.pixels().chunks(3 * FRAME.w as usize) {
-        let signs = signs_of(alloc, row)?;
+/// Prints the rows of a picture of so many bytes a pixel.
+pub fn show<R: Print>(rt: &R, alloc: Global, pixels: &[u8], pixel_bytes: usize) -> io::Result<()>
+    requires some { 0 < pixel_bytes }
+    requires few { pixel_bytes ≤ 4 }
+{
+    for row in pixels.chunks(pixel_bytes * FRAME.w as usize) {
+        let signs = signs_of(alloc, row, pixel_bytes)?;
         println!(rt; "{signs}")?;
     }
     Ok(())

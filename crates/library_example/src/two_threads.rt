@@ -210,7 +210,7 @@ pub fn run<R: Threads + Wait + Sync + Print>(rt: &R, alloc: Global) -> io::Resul
     let (first, canvas) = picture_of_all(rt, alloc, &renderer, first);
     renderer.close(first);
     match canvas {
-        Some(canvas) => show(rt, alloc, &canvas),
+        Some(canvas) => show(rt, alloc, canvas.pixels(), 3),
         None => println!(rt; "no picture"),
     }
 }
