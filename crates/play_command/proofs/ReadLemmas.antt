@@ -1,5 +1,5 @@
 -- What is read for a play or for a selftest is what it needs.
-use Rattle.std.proofs.Common.{◌≡◌, ◌⊎◌, inl, inr, ℕ, ◌<◌, ◌≤◌, Bool, true, false, ◌&&◌, cond, List, [], ◌∷◌, length, All, Option, Some, None, Result, Ok, Err, IfOk, refl, sym, ap, ap₂, subst, ◌∙◌, arith, le-leb, lt-ltb, nat_le, nat_lt}
+use Rattle.std.proofs.Common.{◌≡◌, inl, inr, ℕ, ◌<◌, ◌≤◌, Bool, true, false, ◌&&◌, cond, List, [], ◌∷◌, length, All, Some, None, Result, Ok, Err, IfOk, refl, sym, ap, subst, ◌∙◌, arith, le-leb, lt-ltb, nat_le, nat_lt}
 use Rattle.std.proofs.lemmas.Bool.{cases_lt}
 use Rattle.ass_io.specs.Fetched.{Told}
 use Rattle.ass_script.specs.Ranges.{IsScript}
@@ -15,7 +15,7 @@ use Rattle.generated_script.specs.Generated.{generated}
 use Rattle.run_status.specs.Causes.{script_status, with_status}
 use Rattle.run_status.specs.Inputs.{AreFilesRead, AreRead}
 use Rattle.run_status.specs.declared.inputs.Inputs.{Inputs}
-use Rattle.play_model.specs.Plays.{IsPlayable, PlayView}
+use Rattle.play_model.specs.Plays.{IsPlayable}
 use Rattle.play_shares.specs.Instants.{frame_count}
 use Rattle.play_shares.specs.Limits.{max_frames}
 use Rattle.run_words.specs.Jobs.{IsPlay}

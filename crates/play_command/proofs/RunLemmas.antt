@@ -1,6 +1,6 @@
 -- From what is to be reported to the end of a run.
-use Rattle.std.proofs.Common.{◌≡◌, ◌≢◌, ◌⊎◌, inl, inr, ℕ, ◌≤◌, Bool, true, false, cond, List, [], ◌∷◌, ◌++◌, length, Option, Some, None, Result, Ok, Err, refl, sym, ap, subst, ◌∙◌, arith, String, Global, string_bytes}
-use Rattle.std.specs.Io.KnownBytes.{Appends, Keeps}
+use Rattle.std.proofs.Common.{◌≡◌, ◌⊎◌, inl, inr, ℕ, Bool, true, false, cond, List, [], ◌++◌, length, Option, Some, None, Result, Ok, Err, refl, sym, ap, subst, ◌∙◌, arith, String, Global, string_bytes}
+use Rattle.std.specs.Io.KnownBytes.{Appends}
 use Rattle.std.proofs.lemmas.Bool.{cases_lt}
 use Rattle.ass_num.specs.Causes.{Rose}
 use Rattle.ass_io.specs.Fetched.{Told}
@@ -12,7 +12,7 @@ use Rattle.bdf_font.specs.Limits.{max_fonts}
 use Rattle.single_run.proofs.Ends.{ended}
 use Rattle.single_run.proofs.PieceLemmas.{IsTellable, ended_told, memory_either, some_told, told_after, told_line}
 use Rattle.single_run.proofs.Runs.{answered_after, done_before, fault_or_decided, found_before, keeps, reported_as}
-use Rattle.single_run.specs.Outcomes.{ArePiecesFinished, ArePiecesTold, IsEnded, IsOrFault, IsOrMemory, IsReportable, IsReported, IsStatusReadCounted, IsWriteCounted, out_of_memory, status_if_put, text_to_report}
+use Rattle.single_run.specs.Outcomes.{ArePiecesFinished, ArePiecesTold, IsEnded, IsOrFault, IsOrMemory, IsReportable, IsReported, IsStatusReadCounted, IsWriteCounted, out_of_memory, text_to_report}
 use Rattle.single_run.specs.Runs.{SinkChange, sink_change}
 use Rattle.single_run.specs.declared.outcome.Outcome.{Outcome}
 use Rattle.single_run.specs.declared.outcome.Outcome.TheVariants.{Ended, Found}
@@ -27,7 +27,6 @@ use Rattle.run_words.specs.declared.job.Job.{Job}
 use Rattle.run_words.specs.declared.job.Job.TheVariants.{Changes, Check, Frame, Help, Play, Selftest, Stills, Version, Write}
 use Rattle.run_words.specs.declared.job.PlayJob.{PlayJob}
 use Rattle.run_words.specs.declared.job.WordsFault.{WordsFault}
-use Rattle.run_status.specs.Statuses.{status_line}
 use Rattle.run_status.specs.declared.status.Status.{Status}
 use Rattle.run_status.specs.declared.status.Status.TheVariants as status
 use Rattle.run_status.specs.declared.status.What.TheVariants.{Fonts, Frames as images}

@@ -1,9 +1,7 @@
 -- The report of a selftest.
-use Rattle.std.proofs.Common.{◌≡◌, ◌⊎◌, inl, inr, ℕ, zero, suc, ◌+◌, ◌-◌, ◌*◌, ◌/◌, ◌%◌, ◌<◌, ◌≤◌, min, List, [], ◌∷◌, ◌++◌, length, map, Option, Some, None, Result, Ok, Err, refl, sym, ap, subst, ◌∙◌, arith, length-append, string_bytes, String, Global}
-use Rattle.std.specs.Int.{div_ceil}
+use Rattle.std.proofs.Common.{◌≡◌, inl, inr, ℕ, ◌+◌, ◌-◌, ◌*◌, ◌<◌, ◌≤◌, List, [], ◌∷◌, ◌++◌, length, map, Some, Result, Ok, Err, refl, sym, ap, subst, ◌∙◌, arith, length-append, string_bytes, String, Global}
 use Rattle.std.specs.Io.KnownBytes.{Appends}
-use Rattle.std.specs.List.{All, flat_map, slice_index_or}
-use Rattle.std.proofs.Math.Nat.{mul-div_cancel, mul-mod_left}
+use Rattle.std.specs.List.{All, slice_index_or}
 use Rattle.std.proofs.lemmas.List.{length-map}
 use Rattle.std.proofs.lemmas.List.Elements.{All-cons, All-head, All-nil, All-tail}
 use Rattle.ass_events.specs.Histories.{Chunk, Entry, Flush, live, live_after}
@@ -22,8 +20,7 @@ use Rattle.generated_script.specs.Grid.{grid_font}
 use Rattle.run_status.specs.Causes.{script_status, with_status}
 use Rattle.run_status.specs.declared.inputs.Inputs.{Inputs}
 use Rattle.play_model.specs.Images.{IsSettledImage}
-use Rattle.play_model.specs.Outputs.{IsShownPlay}
-use Rattle.play_model.specs.Plays.{IsPlayable, IsTimeOf, PlayView, feeder_events, good_count}
+use Rattle.play_model.specs.Plays.{IsPlayable, IsTimeOf, PlayView, feeder_events}
 use Rattle.play_model.proofs.Counts.{good_is, time_long}
 use Rattle.play_model.proofs.FeedLaws.{IsChunk, all_chunks}
 use Rattle.play_model.proofs.Labels.{IsInterleaving_all}
@@ -33,7 +30,7 @@ use Rattle.play_report.specs.declared.report.PlayReport.{PlayReport}
 use Rattle.play_rounds.specs.Outputs.{IsPlayed, IsWholePlay}
 use Rattle.play_rounds.specs.declared.ends.PlayEnd.{PlayEnd}
 use Rattle.play_rounds.specs.declared.ends.PlayEnd.TheVariants as play_end
-use Rattle.play_shares.specs.Instants.{frame_count, instant_count}
+use Rattle.play_shares.specs.Instants.{instant_count}
 use Rattle.run_words.specs.Jobs.{IsJob, IsPlay}
 use Rattle.run_words.specs.declared.job.Job.TheVariants.{Selftest}
 use Rattle.run_words.specs.declared.job.PlayJob.{PlayJob}

@@ -1,16 +1,15 @@
 -- What the program tells of itself, up to the end of a run.
-use Rattle.std.proofs.Common.{◌≡◌, ◌⊎◌, inl, inr, ℕ, List, [], Option, Some, None, Result, Ok, ◌∙◌, refl, sym, ap, subst, arith}
+use Rattle.std.proofs.Common.{◌≡◌, inl, inr, ℕ, List, [], Some, None, Ok, ◌∙◌, refl, sym, ap, subst, arith}
 use Rattle.ass_io.specs.Fetched.{Told}
 use Rattle.ass_io.specs.Fetches.{FetchChange}
 use Rattle.ass_io.specs.Sinks.{SinkState}
-use Rattle.single_run.proofs.PieceLemmas.{memory_either, pieces_after, told_after}
-use Rattle.single_run.proofs.Runs.{answered_after, done_before, found_before, keeps, reported_as, shown_after}
+use Rattle.single_run.proofs.PieceLemmas.{pieces_after, told_after}
+use Rattle.single_run.proofs.Runs.{answered_after, keeps, reported_as, shown_after}
 use Rattle.single_run.specs.Outcomes.{ArePiecesFinished, ArePiecesShown, IsEnded, IsOrFault, IsReportable, IsReported, IsShown, IsStatusReadCounted, SuitsSink, out_of_memory, status_if_put, text_to_report}
 use Rattle.single_run.specs.Runs.{SinkChange, sink_change}
 use Rattle.single_run.specs.Works.{work_asked, work_in}
 use Rattle.single_run.specs.declared.outcome.Outcome.{Outcome}
 use Rattle.single_run.specs.declared.outcome.Outcome.TheVariants.{Ended, Found}
-use Rattle.single_run.specs.declared.work.Work.{Work}
 use Rattle.run_words.specs.Words.{job_of}
 use Rattle.run_words.specs.declared.job.Job.{Job}
 use Rattle.run_words.specs.declared.job.Job.TheVariants.{Changes, Check, Frame, Help, Play, Selftest, Stills, Version, Write}

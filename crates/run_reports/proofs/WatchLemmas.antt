@@ -1,5 +1,5 @@
 -- What there is to watch of a run.
-use Rattle.std.proofs.Common.{◌≡◌, ◌∙◌, ℕ, Bool, true, false, not, ◌&&◌, if◌then◌else◌, List, Option, None, is_some, Result, Ok, Err, ap, refl, sym}
+use Rattle.std.proofs.Common.{◌≡◌, ◌∙◌, ℕ, Bool, true, false, not, ◌&&◌, if◌then◌else◌, List, None, is_some, Result, Ok, Err, ap, refl, sym}
 use Rattle.run_words.specs.ReportWords.{is_plain, options_of}
 use Rattle.run_words.specs.Words.{job_of}
 use Rattle.run_words.specs.declared.job.Job.{Job}

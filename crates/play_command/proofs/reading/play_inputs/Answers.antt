@@ -1,4 +1,4 @@
-use Rattle.std.proofs.Common.{Err, Ok, refl, subst}
+use Rattle.std.proofs.Common.{Err, refl, subst}
 use Rattle.ass_io.specs.Fetches.{fetch_change}
 use Rattle.play_command.proofs.ReadLemmas.{all_playable}
 use Rattle.play_command.specs.PlayRuns.{AreFetchedUnless, AreReadUnless}

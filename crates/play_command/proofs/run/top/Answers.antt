@@ -1,4 +1,4 @@
-use Rattle.std.proofs.Common.{◌≡◌, ◌∙◌, Ok, None, inr, refl, rules, sym, subst}
+use Rattle.std.proofs.Common.{◌≡◌, ◌∙◌, Ok, None, inr, refl, rules}
 use Rattle.single_run.proofs.Runs.{read_after, written_after}
 use Rattle.single_run.specs.Runs.{sink_change}
 use Rattle.single_run.specs.Works.{work_asked}
