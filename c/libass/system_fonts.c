@@ -83,11 +83,11 @@ static pattern *match_of(const char *name, const struct face *face) {
     return match;
 }
 
-/* Whether the library takes a match: outlines of TrueType. */
+/* Whether the library takes a match: outlines of TrueType, or those of PostScript in an OpenType font. */
 static int is_taken(const pattern *match) {
     unsigned char *format;
     return fontconfig.text(match, "fontformat", 0, &format) == FC_RESULT_MATCH &&
-           !strcmp((const char *)format, "TrueType");
+           (!strcmp((const char *)format, "TrueType") || !strcmp((const char *)format, "CFF"));
 }
 
 /* The file of a face, where the system has a font of just this name, or of any where `may_differ`. */
