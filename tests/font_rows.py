@@ -9,6 +9,8 @@ fault with its byte as this file lists it.
 import os
 import sys
 
+import cff_model
+import cff_rows
 import hand_font
 import truetype_model as model
 from hand_font import ADD_Y, ON, SCALE, SHIFT, UNIT, glyph, points, signed, words
@@ -200,6 +202,27 @@ def ask_names(rows):
     rows.ask("face 0", face_told(font))
 
 
+def ask_post_script(rows):
+    """A face with PostScript outlines: its full names are the PostScript ones. The faults of its table, at their bytes."""
+    tables = hand_font.tables_of(hand_font.numbered(hand_font.SMALL), symbols(), small=True)
+    del tables["loca"], tables["glyf"]
+    names = name_table((3, 1, 1, wide("Strokes")), (3, 1, 4, wide("Strokes Bold")), (3, 1, 6, wide("Strokes-Bold")))
+    outlines = cff_rows.table(["endchar", "10 20 rmoveto 30 40 rlineto 5 -5 rlineto endchar"])
+    held = hand_font.maker().file_of({**tables, "CFF ": outlines, "name": names})
+    rows.file("strokes.otf", held)
+    font = model.Font(held)
+    assert font.full_names == ["Strokes-Bold"]
+    rows.ask("face 0", face_told(font))
+    ask_changed(rows, held, 0, b"OTTO")
+    place, size = font.tables["CFF "]
+    for at, text in ((0, b"\x02"), (2, b"\xff"), (6, b"\0"), (20, b"\x10")):
+        changed = held[: place + at] + text + held[place + at + len(text) :]
+        try:
+            raise AssertionError(cff_model.read(changed, place, size))
+        except cff_model.Refusal as fault:
+            rows.ask(f"with {place + at} {text.hex()}", f"BadFont({fault.byte}, BadOutlines({fault.cause}))")
+
+
 def ask_styles(rows):
     """Weights and slants, with `OS/2` and without it."""
     held = styled("Hand", "Hand", 400, 0)
@@ -318,10 +341,9 @@ def fault_bytes(good):
         "no_face.ttc": (8, "BadPlace"),
         "ends.ttc": (16, "Ends"),
         "face_outside.ttc": (16, "BadPlace"),
-        "postscript.otf": (0, "PostScript"),
         "other_face.ttc": (16, "NotSfnt"),
         "directory_ends.ttf": (end - 1, "Ends"),
-        "postscript.ttf": (end, "PostScript"),
+        "postscript.ttf": (place["glyf"], "BadOutlines(Version)"),
         "postscript_2.ttf": (end, "PostScript"),
         "outside.ttf": (end, "NoTable(Loca)"),
         "no_units.ttf": (place["head"] + 18, "BadNumber"),
@@ -349,6 +371,7 @@ def ask_faults(rows):
     good = hand_font.small_font()
     rows.file("small.ttf", good)
     rows.ask("face 0", face_told(model.Font(good)))
+    ask_changed(rows, good, 0, b"OTTO")
     answers, others = fault_bytes(good), []
     for name, held in hand_font.faults():
         changed = [k for k, (a, b) in enumerate(zip(good, held)) if a != b]
@@ -384,6 +407,7 @@ def main():
     ask_font(rows, "wide.ttf", file_of(map_12(count), wide=True, small=True), [*range(18), *range(24, 40), *range(count - 9, count)])
     ask_names(rows)
     ask_styles(rows)
+    ask_post_script(rows)
     ask_font(rows, "symbol.ttf", file_of(symbols(), small=True), [2])
     ask_faults(rows)
     ask_sets(rows)

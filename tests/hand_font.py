@@ -294,7 +294,6 @@ def faults():
     yield "no_face.ttc", b"ttcf" + longs(0x10000, 0)
     yield "ends.ttc", b"ttcf" + longs(0x10000, 2, 20)
     yield "face_outside.ttc", b"ttcf" + longs(0x10000, 2, 20, 24) + bytes(15)
-    yield "postscript.otf", b"OTTO" + good[4:]
     yield "other_face.ttc", b"ttcf" + longs(0x10000, 1, 16) + b"typ1" + bytes(8)
     yield "directory_ends.ttf", good[: end - 1]
     yield "postscript.ttf", without("glyf", b"CFF ")
@@ -350,6 +349,7 @@ def fonts():
     yield "wide.ttf", wide_font()
     yield "symbol.ttf", symbol_font()
     yield "small.ttf", small_font()
+    yield "open.otf", b"OTTO" + small_font()[4:]
     yield "two.ttc", collection(hand_font(), wide_font())
     yield from faults()
 

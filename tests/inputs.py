@@ -4,6 +4,7 @@ import os
 import shutil
 
 import face_rows
+import hand_cff
 import hand_font
 from script_fonts import coded
 
@@ -40,11 +41,17 @@ def line(start, end, text, margin="0", layer="0"):
     return f"Dialogue: {layer},{start},{end},Default,,{margin},0,0,,{text}\n"
 
 
-def glyph_lines():
+def stroke_lines():
+    """Letters of the fonts with PostScript outlines that are written by hand."""
+    letters = [chr(hand_cff.FIRST_CODE + k) for k in range(len(hand_cff.glyphs()))]
+    return glyph_lines("\\N".join("".join(letters[k : k + 18]) for k in range(0, len(letters), 18)))
+
+
+def glyph_lines(text=None):
     """Tags, and the letters of the font that is written by hand, as its maps have them."""
     mapped = "".join(map(chr, range(33, 85)))
     others = "".join(map(chr, [*range(256, 261), 512, *range(1024, 1027), *range(2048, 2052), 65000, 128512, 128514, 1114111, 122]))
-    text = "\\N".join([mapped[:20], mapped[20:40], mapped[40:], others])
+    text = text or "\\N".join([mapped[:20], mapped[20:40], mapped[40:], others])
     for tags in ["", r"\b1\i1\u1\s1", r"\frz20\bord3\shad2", r"\frz-50\u1\b1\blur2", r"\fscx30\fscy250"]:
         yield f"{{{tags}}}", text
 
@@ -89,6 +96,7 @@ def scripts():
     )
     yield "moves.ass", HEAD + line("0:00:00.00", "0:00:01.00", r"{\move(0,0,12,8)}x") + line("0:00:00.50", "0:00:01.00", "x x")
     yield "glyphs.ass", in_turn(tags + text for tags, text in glyph_lines())
+    yield "strokes.ass", in_turn(tags + text for tags, text in stroke_lines())
     yield "faces.ass", in_turn(face_lines())
     yield "face.ass", in_turn("AAAA" for _ in face_lines())
     yield "-x.ass", HEAD + x
@@ -126,7 +134,7 @@ def make(room, examples):
     """Puts the files and those of examples/ into a folder."""
     for name in os.listdir(examples):
         shutil.copy(f"{examples}/{name}", room)
-    for name, text in [*scripts(), *fonts(), *hand_font.fonts(), *faces()]:
+    for name, text in [*scripts(), *fonts(), *hand_font.fonts(), *hand_cff.fonts(), *faces()]:
         with open(f"{room}/{name}", "wb") as it:
             it.write(text if isinstance(text, bytes) else text.encode())
     os.mkdir(f"{room}/folder")

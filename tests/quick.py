@@ -7,6 +7,7 @@ usage: python3 tests/quick.py [--program FILE] [--archive FILE] [PART..]
 Its parts, which all are tried where none is named:
   release    the sums of the release, and that it is of this checkout
   runs       the runs of tests/runs/: words, reports, pictures, changes, scripts written again, selftests
+  postscript that letters with PostScript outlines are those of a model, and which names they answer to
   views      that letters in the frames of several videos stand where libass has them
   over_video that frames have the bytes of their formats, and instants stand at their rates
   video_streams that plays as YUV4MPEG2 streams have the numbers of their matrix, and FFmpeg's within 1
@@ -43,12 +44,13 @@ import machines  # noqa: E402
 import outside  # noqa: E402
 import over_video  # noqa: E402
 import plays  # noqa: E402
+import postscript_fonts  # noqa: E402
 import reports  # noqa: E402
 import stored  # noqa: E402
 import video_streams  # noqa: E402
 import views  # noqa: E402
 
-RUNS = ["words", "reports", "pictures", "truetype", "faces", "writes"]
+RUNS = ["words", "reports", "pictures", "truetype", "postscript", "faces", "writes"]
 
 
 class Score:
@@ -96,6 +98,7 @@ def write_runs(given):
 PARTS = {
     "release": outside.release,
     "runs": runs,
+    "postscript": postscript_fonts.postscript,
     "views": views.views,
     "over_video": over_video.over_video,
     "video_streams": video_streams.video_streams,

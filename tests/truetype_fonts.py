@@ -74,9 +74,9 @@ def time_of(second):
     return f"{second // 3600}:{second // 60 % 60:02}:{second % 60:02}.00"
 
 
-def pictures(program, script, font, count):
+def pictures(program, script, fonts, count):
     """The pictures of a script, a second each, as their red bytes."""
-    words = ["play", "--from", "0", "--to", str(1000 * count), "--step", "1000", "--size", f"{W}x{H}", script, font]
+    words = ["play", "--from", "0", "--to", str(1000 * count), "--step", "1000", "--size", f"{W}x{H}", script, *fonts]
     text = subprocess.run([program, *words], capture_output=True, check=True).stdout
     for _ in range(count):
         end = text.index(b"\n255\n") + 5
@@ -95,16 +95,21 @@ def wanted(font, letter, size, look):
     return bytes(found)
 
 
-def compare_pictures(program, path, font, room):
+def put_script(room, texts):
+    """A script of texts at one place, a second each."""
+    with open(f"{room}/letters.ass", "w", encoding="utf-8") as it:
+        it.write(HEAD)
+        for k, text in enumerate(texts):
+            it.write(f"Dialogue: {time_of(k)},{time_of(k + 1)},{{\\pos({X},{Y})}}{text}\n")
+    return it.name
+
+
+def compare_pictures(program, path, font, room, letters=LETTERS, looks=LOOKS):
     """How many pictures are the model's, and how many aren't."""
     passed = failed = 0
-    for size, tags, look in LOOKS:
-        script = f"{room}/letters.ass"
-        with open(script, "w", encoding="utf-8") as it:
-            it.write(HEAD)
-            for k, letter in enumerate(LETTERS):
-                it.write(f"Dialogue: {time_of(k)},{time_of(k + 1)},{{\\pos({X},{Y})\\fs{size}{tags}}}{letter}\n")
-        for letter, shown in zip(LETTERS, pictures(program, script, path, len(LETTERS))):
+    for size, tags, look in looks:
+        script = put_script(room, [f"{{\\fs{size}{tags}}}{letter}" for letter in letters])
+        for letter, shown in zip(letters, pictures(program, script, [path], len(letters))):
             if shown == wanted(font, letter, size, look):
                 passed += 1
             else:

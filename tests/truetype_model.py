@@ -1,6 +1,9 @@
-"""A model of docs/TRUETYPE.md and of how its letters are drawn, for fonts that have the format. Whole numbers alone."""
+"""A model of docs/TRUETYPE.md and of how its letters are drawn, for fonts that have the format. Whole numbers alone. What
+a table of PostScript outlines has is asked of cff_model.py."""
 
 import struct
+
+import cff_model
 
 KINDS = [(3, 10), (0, 6), (0, 4), (3, 1), (0, 3), (0, 2), (0, 1), (0, 0), (3, 0)]
 MOST_POINTS, MOST_PARTS, DEEPEST, FARTHEST = 16384, 256, 8, 65535
@@ -28,6 +31,7 @@ class Font:
                 self.tables.setdefault(held[e : e + 4].decode("latin-1"), (place, size))
         head, hhea = self.tables["head"][0], self.tables["hhea"][0]
         self.units, self.is_wide = self.u16(head + 18), self.u16(head + 50) != 0
+        self.cff = cff_model.read(held, *self.tables["CFF "]) if "glyf" not in self.tables and "CFF " in self.tables else None
         self.count, self.own = self.u16(self.tables["maxp"][0] + 4), self.u16(hhea + 34)
         self.ascent, self.descent = self.heights(head, hhea)
         self.underline = self.bar("post", 12, 8, 10, -self.units // 10)
@@ -77,7 +81,8 @@ class Font:
         return given if 1 <= given <= 1000 else weight, self.u16(os2 + 62) & 1 != 0
 
     def names(self):
-        """Families and full names: those of Windows, at most 64 of each, or else one family of the others."""
+        """Families and full names: those of Windows, at most 64 of each, or else one family of the others. A font with
+        PostScript outlines has PostScript names in place of full ones."""
         place = self.table("name", 6)
         if place is None:
             return [], []
@@ -90,7 +95,7 @@ class Font:
                 if text + size <= end:
                     found.setdefault((whose, kind), []).append(spelled(self.held[text : text + size], platform == 1))
         families = found.get(("windows", 1), [])[:64] or found.get(("other", 1), [])[:1]
-        return families, found.get(("windows", 4), [])[:64]
+        return families, found.get(("windows", 6 if self.cff else 4), [])[:64]
 
     def mapped(self):
         """The glyphs of all codes that have one."""
@@ -141,6 +146,8 @@ class Font:
         return self.u16(place + entry), self.s16(place + bearing) if bearing + 2 <= size else 0
 
     def bytes_of(self, g):
+        if self.cff:
+            return None
         (loca, size), (glyf, most) = self.tables["loca"], self.tables["glyf"]
         width = 4 if self.is_wide else 2
         if width * (g + 2) > size:
@@ -148,8 +155,12 @@ class Font:
         a, b = ((self.u32(loca + 4 * k) if self.is_wide else 2 * self.u16(loca + 2 * k)) for k in (g, g + 1))
         return self.held[glyf + a : glyf + min(b, most)] if a < min(b, most) else None
 
+    def strokes(self, g):
+        """The path of a glyph with PostScript outlines, in 1/65,536 of a unit: moves, lines and curves."""
+        return cff_model.path(self.cff, g) or [] if self.cff else []
+
     def contours(self, g):
-        """The contours of a glyph: points (x, y, on)."""
+        """The contours of a glyph: points (x, y, on); none of one with PostScript outlines."""
         try:
             found, shift = self.shape(g, 0, [0, 0])
             return [[(near(x + shift), y, on) for x, y, on in contour] for contour in found]
@@ -258,10 +269,10 @@ def simple(held, count, room):
 # How a letter is drawn: rings in 1/64 pixel, y downwards, samples of 1/16 pixel, and bytes of coverage.
 
 
-def scaled(ux, uy, italic, x, y):
+def scaled(ux, uy, italic, x, y, unit=1):
     """A point of the font's plane, y downwards."""
-    below = y * uy // 65536
-    return x * ux // 65536 + (-below // 4 if italic else 0), below
+    below = y * uy // (65536 * unit)
+    return x * ux // (65536 * unit) + (-below // 4 if italic else 0), below
 
 
 def curve(a, b, c, ends_on):
@@ -271,6 +282,29 @@ def curve(a, b, c, ends_on):
     for u in range(1, n if ends_on else n + 1):
         z = n - u
         yield tuple((z * z * a[k] + 2 * z * u * b[k] + u * u * c[k]) // (n * n) for k in (0, 1))
+
+
+def cubic(a, b, c, d):
+    bend, n = max(abs(p[k] - 2 * q[k] + r[k]) for p, q, r in ((a, b, c), (b, c, d)) for k in (0, 1)), 1
+    while n < 32 and bend > 3 * n * n:
+        n *= 2
+    for u in range(1, n + 1):
+        z = n - u
+        weights = z * z * z, 3 * z * z * u, 3 * z * u * u, u * u * u
+        yield tuple(sum(w * p[k] for w, p in zip(weights, (a, b, c, d))) // n**3 for k in (0, 1))
+
+
+def stroke_rings(strokes, place):
+    """The rings of a path whose points stand at a place each."""
+    found = []
+    for kind, *points in strokes:
+        points = [place(*it) for it in points]
+        if kind == "M":
+            found.append(points)
+        else:
+            found[-1] += cubic(last, *points) if kind == "C" else points
+        last = points[-1]
+    return found
 
 
 def ring(points):
@@ -292,6 +326,12 @@ def rings(font, g, ux, uy, bold=False, italic=False, underline=False, strikeout=
         for contour in contours:
             points = [(scaled(ux, uy, italic, x, -y), on) for x, y, on in contour]
             found.append(ring([((x + shift, y), on) for (x, y), on in points]))
+
+        def place(x, y, shift=shift):
+            x, y = scaled(ux, uy, italic, x, -y, cff_model.ONE)
+            return x + shift, y
+
+        found += stroke_rings(font.strokes(g), place)
     for wanted, bar in ((underline, font.underline), (strikeout, font.strikeout)):
         if wanted and bar:
             top, size, advance = *bar, font.metric(g)[0]
