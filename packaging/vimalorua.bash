@@ -47,7 +47,7 @@ _vimalorua() {
         -*) mapfile -t COMPREPLY < <(compgen -W "$options" -- "$word") ;;
         *)
             [ "${COMP_WORDS[1]}" = selftest ] || mapfile -t COMPREPLY < <(
-                compgen -f -X '!*.@(ass|ssa|bdf|ttf|ttc|ASS|SSA|BDF|TTF|TTC)' -- "$word"
+                compgen -f -X '!*.@(ass|ssa|bdf|ttf|ttc|otf|otc|ASS|SSA|BDF|TTF|TTC|OTF|OTC)' -- "$word"
                 compgen -d -- "$word"
             )
             compopt -o filenames 2> /dev/null
