@@ -63,7 +63,7 @@ enum {
     VIMALORUA_MANY_LINES = 3,    /* *place: the most Dialogue lines, 1,000,000 */
     VIMALORUA_MANY_STYLES = 4,   /* *place: the most styles, 10,000 */
     VIMALORUA_OUT_OF_MEMORY = 5, /* the same call may be made again */
-    VIMALORUA_BAD_FONT = 6,      /* *place: the first line that leaves BDF, from 1, or byte that leaves TrueType, from 0 */
+    VIMALORUA_BAD_FONT = 6,      /* *place: the first line that leaves BDF, from 1, or byte that leaves OpenType, from 0 */
     VIMALORUA_LARGE_FONT = 7,    /* *place: the most glyphs, 131,072, or faces of a file, 64 */
     VIMALORUA_MANY_FONTS = 8,    /* *place: the most fonts, 64 */
     VIMALORUA_NO_FONT = 9,       /* nothing is drawn before a font was added */
@@ -171,7 +171,7 @@ const char *vimalorua_status_text(int32_t status);
 int32_t vimalorua_open(const uint8_t *script, size_t script_len, uint64_t budget, vimalorua **out,
                        size_t *place) VIMALORUA_NO_NULLS((4, 5));
 
-/* Adds the fonts of a file from its bytes (at most 67,108,864), BDF or TrueType, behind the others: of a collection all
+/* Adds the fonts of a file from its bytes (at most 67,108,864), BDF or OpenType, behind the others: of a collection all
  * faces, in their order. There are at most 64 fonts. Texts in a style whose font isn't there are shown in font 0. What
  * the caches had is dropped.
  *
@@ -196,7 +196,7 @@ int32_t vimalorua_add_script_fonts(vimalorua *handle, const uint8_t *script, siz
                                    size_t *count) VIMALORUA_NO_NULLS((1, 4, 5));
 
 /* Tells the names that the font with a number answers to: those of its families, and behind them its full names, each
- * with a zero byte behind it. They are UTF-8 where the font is TrueType, and the bytes of its file where it is BDF.
+ * with a zero byte behind it. They are UTF-8 where the font is OpenType, and the bytes of its file where it is BDF.
  * *len is how many bytes they have together. They stand at the front of `names` where `room` is as much at least, and
  * what is behind them stays; where it is less, all of `names` stays. It came with version 1.4.
  *
