@@ -211,6 +211,19 @@ def whole_font():
     return font_of(table([text for _, _, text in held], SHARED, OWN, size=2), held)
 
 
+# How many subroutines fonts have on both sides of where their numbers begin elsewhere
+MANY = [(1239, 1240), (1240, 33899), (33899, 33900), (33900, 1239)]
+
+
+def font_of_many(own, shared):
+    """A font with so many subroutines of its own and for all, of which the first ones and the last ones draw."""
+    first = [107 if it < 1240 else 1131 if it < 33900 else 32768 for it in (own, shared)]
+    calls = [(f"{k} {name}") for it, count, name in zip(first, (own, shared), ("callsubr", "callgsubr")) for k in (-it, count - 1 - it)]
+    held = [("missing", 500, "endchar"), ("blank", 500, "endchar"), *((it, 500, f"60 hmoveto {it} endchar") for it in calls)]
+    subs = [["300 400 -300 hlineto ret", *["ret"] * (it - 2), "200 500 -200 hlineto ret"] for it in (own, shared)]
+    return font_of(table([text for _, _, text in held], subs[1], subs[0], size=3), held)
+
+
 def ranges(count):
     """A choice by ranges: of the first DICT, but for a stretch in the middle."""
     return bytes([3]) + words(3, 0) + b"\0" + words(count // 2) + b"\1" + words(count - 5) + b"\0" + words(count)
@@ -218,7 +231,7 @@ def ranges(count):
 
 def font_of_dicts(select, names):
     held = glyphs()
-    return font_of(table([text for _, _, text in held], SHARED, dicts=[OWN, OTHER_OWN], select=select, size=3), held, names)
+    return font_of(table([text for _, _, text in held], SHARED, top=entry(b"\x0c\x1e", 391, 391, 0), dicts=[OWN, OTHER_OWN], select=select, size=3), held, names)
 
 
 def small(**given):
@@ -239,6 +252,7 @@ def faults():
     yield "cff_names_end.otf", font_of(good[:8], held)
     yield "cff_charstrings_end.otf", font_of(good[:-1], held)
     yield "cff_no_choice.otf", font_of(dicts.replace(SELECT, b"\x0c\x07"), held)
+    yield "cff_dicts_end.otf", font_of(dicts[: -len(ranges(3)) - 1], held)
 
 
 def fonts():
@@ -247,6 +261,7 @@ def fonts():
     yield "cff.otf", whole_font()
     yield "cff_ranges.otf", font_of_dicts(ranges(count), ("Post Ranges", "Post Ranges Whole", "PostRangesPS"))
     yield "cff_list.otf", font_of_dicts(bytes([0]) + bytes(k % 2 for k in range(count)), ("Post List", "Post List Whole", "PostListPS"))
+    yield from ((f"cff_{own}_{shared}.otf", font_of_many(own, shared)) for own, shared in MANY)
     yield from faults()
 
 

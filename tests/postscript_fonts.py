@@ -62,8 +62,18 @@ def postscript(score, given):
         score.add(*truetype_fonts.compare_pictures(given.program, path, font, given.room, letters, looks))
         drawn = sum(bool(font.strokes(k)) for k in range(len(letters)))
         score.check(drawn == wanted, f"{name}: {drawn} glyphs draw something in the model, and not {wanted}")
+    many(score, given)
     beside_broken(score, given)
     names(score, given)
+
+
+def many(score, given):
+    """The first and the last subroutines of fonts that have many: their numbers are without one of three biases."""
+    for own, shared in hand_cff.MANY:
+        path = f"{given.room}/cff_{own}_{shared}.otf"
+        letters, font = [chr(hand_cff.FIRST_CODE + k) for k in range(2, 6)], font_of(path)
+        score.add(*truetype_fonts.compare_pictures(given.program, path, font, given.room, letters, PLAIN))
+        score.check(all(font.strokes(font.glyph(ord(it))) for it in letters), f"{path}: a subroutine draws nothing in the model")
 
 
 def beside_broken(score, given):
@@ -105,7 +115,10 @@ def font_of(path):
 
 def outline_of(face, g):
     """The contours that FreeType has of a glyph: points, each on it (1) or one that a cubic curve bends towards (2)."""
-    face.load_glyph(g, freetype.FT_LOAD_NO_SCALE | freetype.FT_LOAD_NO_HINTING)
+    try:
+        face.load_glyph(g, freetype.FT_LOAD_NO_SCALE | freetype.FT_LOAD_NO_HINTING)
+    except freetype.FT_Exception:
+        return []
     it, begin, found = face.glyph.outline, 0, []
     points, tags = it.points, it.tags
     for end in it.contours:

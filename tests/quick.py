@@ -146,7 +146,10 @@ def main():
         whole = Score()
         for name in given.parts or PARTS:
             score = Score()
-            PARTS[name](score, given)
+            try:
+                PARTS[name](score, given)
+            except subprocess.CalledProcessError as why:
+                score.check(False, str(why))
             print(f"{name}: {score.passed} passed, {score.failed} failed", flush=True)
             whole.add(score.passed, score.failed)
     finally:
