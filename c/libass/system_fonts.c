@@ -83,7 +83,7 @@ static pattern *match_of(const char *name, const struct face *face) {
     return match;
 }
 
-/* Whether the library takes a match: outlines of TrueType, or those of PostScript in an OpenType font. */
+/* Whether the library may take a match: fontconfig tells CFF2, which is refused when it is added, as CFF too. */
 static int is_taken(const pattern *match) {
     unsigned char *format;
     return fontconfig.text(match, "fontformat", 0, &format) == FC_RESULT_MATCH &&
