@@ -3,16 +3,19 @@ use Rattle.std.proofs.Common.{◌≡◌, ℕ, zero, suc, ◌+◌, ◌<◌, ◌�
 use Rattle.std.specs.Prelude.{◌&&◌, ◌==◌, not, nat_lt, nat_le, IfSome, option_and_then, option_map}
 use Rattle.std.proofs.lemmas.Bool.Decides.{nat_tests}
 use Rattle.font_bytes.specs.Bytes.{u8_at}
+use Rattle.cff_font.specs.declared.decimals.FontMatrix.{FontMatrix}
 use Rattle.cff_font.specs.declared.indexes.Index.{Index}
 use Rattle.cff_font.specs.declared.machine.Machine.{Machine}
 use Rattle.cff_font.specs.declared.machine.Program.{Program}
 use Rattle.cff_font.specs.declared.read.CffFont.{CffFont}
+use Rattle.outline_points.specs.declared.stroke.Stroke.{Stroke}
 use Rattle.cff_font.specs.declared.tokens.Span.{Span}
 use Rattle.cff_font.specs.declared.tokens.Token.{Token}
 use Rattle.cff_font.specs.declared.tokens.Token.TheVariants.{Number, Operator}
-use Rattle.cff_font.specs.Glyphs.{cff_contours, charstring_contours, contours_if_whole, drawn_by, ends_by, is_blank_at_sight, is_blank_body, is_blank_from, max_steps}
+use Rattle.cff_font.specs.Glyphs.{cff_contours, charstring_contours, contours_if_whole, drawn_by, ends_by, glyph_contours, is_blank_at_sight, is_blank_body, is_blank_from, max_steps}
 use Rattle.cff_font.specs.Indexes.{item_at}
 use Rattle.cff_font.specs.Machines.{behind_code, behind_operator, charstring_token, in_fractions, max_operands, run}
+use Rattle.cff_font.specs.Matrices.{contours_behind, glyph_matrix, transformed_contours}
 use Rattle.cff_font.specs.Pens.{first_pen}
 use Rattle.cff_font.specs.Subroutines.{local_subroutines}
 use Rattle.cff_font.specs.Tokens.{behind_token, number_before, operator_at, whole_number}
@@ -106,21 +109,31 @@ blank-run bytes program (suc n) (suc k) from to operands within blank =
 
 -- ---- glyphs
 
-undrawn : (m : Option Machine) → IfSome m IsUndrawn → contours_if_whole (option_map drawn_by m) ≡ []
-undrawn None h = refl
+-- no contours, or none that are whole
+abbrev IsEmpty : Option (List (List Stroke)) → Type 0
+IsEmpty contours = IfSome contours (λ all. all ≡ [])
+
+undrawn : (m : Option Machine) → IfSome m IsUndrawn → IsEmpty (option_map drawn_by m)
+undrawn None h = tt
 undrawn (Some m) h = h
 
-own-undrawn : (bytes : List ℕ) (font : CffFont) (body : Span) (own : Option Index) → is_blank_body bytes (Some body) ≡ true
-    → contours_if_whole (option_and_then (charstring_contours bytes font body) own) ≡ []
-own-undrawn bytes font body None blank = refl
+own-undrawn : (bytes : List ℕ) (font : CffFont) (body : Span) (own : Option Index) → is_blank_body bytes (Some body) ≡ true → IsEmpty (option_and_then (charstring_contours bytes font body) own)
+own-undrawn bytes font body None blank = tt
 own-undrawn bytes font body (Some own) blank =
     let program : Program = record { shared = font.globals; own = own } in
     undrawn (run bytes program max_steps (waiting false body.from body.to [])) (blank-run bytes program max_steps (body.to - body.from) body.from body.to [] (omega arith) blank)
 
 body-undrawn : (bytes : List ℕ) (font : CffFont) (g : ℕ) (body : Option Span) → is_blank_body bytes body ≡ true
-    → contours_if_whole (option_and_then (λ body. option_and_then (charstring_contours bytes font body) (local_subroutines bytes font g)) body) ≡ []
-body-undrawn bytes font g None blank = refl
+    → IsEmpty (option_and_then (λ body. option_and_then (charstring_contours bytes font body) (local_subroutines bytes font g)) body)
+body-undrawn bytes font g None blank = tt
 body-undrawn bytes font g (Some body) blank = own-undrawn bytes font body (local_subroutines bytes font g) blank
 
-pub blank-empty : (bytes : List ℕ) (font : CffFont) (g : ℕ) → is_blank_at_sight bytes font g ≡ true → cff_contours bytes font g ≡ []
-blank-empty bytes font g blank = body-undrawn bytes font g (item_at bytes font.glyphs g) blank
+-- whatever the matrix is
+empty-behind : (m : Option FontMatrix) (contours : Option (List (List Stroke))) → IsEmpty contours → contours_if_whole (option_and_then (contours_behind m) contours) ≡ []
+empty-behind m None empty = refl
+empty-behind None (Some contours) empty = empty
+empty-behind (Some m) (Some contours) empty = ap (λ all. contours_if_whole (transformed_contours m all)) empty
+
+pub blank-empty : (bytes : List ℕ) (font : CffFont) (units g : ℕ) → is_blank_at_sight bytes font g ≡ true → cff_contours bytes font units g ≡ []
+blank-empty bytes font units g blank =
+    empty-behind (glyph_matrix bytes font units g) (glyph_contours bytes font g) (body-undrawn bytes font g (item_at bytes font.glyphs g) blank)

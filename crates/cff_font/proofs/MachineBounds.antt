@@ -18,10 +18,11 @@ use Rattle.cff_font.specs.Indexes.{item_at}
 use Rattle.outline_points.specs.CubicContours.{IsGlyphStroke}
 use Rattle.cff_font.specs.Machines.{machine_at, behind_code, behind_drawing, behind_hints, behind_mask, behind_masked, behind_operator, called, charstring_token, behind_end, first_machine}
 use Rattle.cff_font.specs.Machines.{in_subroutine, is_hint_code, is_mask_code, max_calls, max_hints, max_operands, moved_by, operand_before_last, returned, run, behind_step, subroutine_named, with_pen}
+use Rattle.cff_font.specs.Matrices.{contours_behind, glyph_matrix}
 use Rattle.cff_font.specs.Pens.{drawn_strokes, moved_pen}
 use Rattle.cff_font.specs.Strokes.{strokes_of, step}
 use Rattle.cff_font.specs.Subroutines.{local_subroutines}
-use Rattle.cff_font.proofs.PenBounds.{IsGoodPen, if_then, if_map, closed-within, good-moved, good-strokes}
+use Rattle.cff_font.proofs.PenBounds.{IsGoodPen, behind-matrix-within, if_then, if_map, closed-within, good-moved, good-strokes}
 
 abbrev pub IsGood : Machine → Type 0
 IsGood m = IsGoodPen m.pen
@@ -130,5 +131,9 @@ or-none : (contours : Option (List (List Stroke))) → IfSome contours (All (All
 or-none None h = All-nil (All IsGlyphStroke)
 or-none (Some contours) h = h
 
-pub contours-within : (bytes : List ℕ) (font : CffFont) (g : ℕ) → All (All IsGlyphStroke) (cff_contours bytes font g)
-contours-within bytes font g = or-none (glyph_contours bytes font g) (body-within bytes font g (item_at bytes font.glyphs g))
+pub contours-within : (bytes : List ℕ) (font : CffFont) (units g : ℕ) → All (All IsGlyphStroke) (cff_contours bytes font units g)
+contours-within bytes font units g =
+    let m = glyph_matrix bytes font units g in
+    let drawn = body-within bytes font g (item_at bytes font.glyphs g) in
+    or-none (option_and_then (contours_behind m) (glyph_contours bytes font g))
+    (if_then (glyph_contours bytes font g) (contours_behind m) (All (All IsGlyphStroke)) (All (All IsGlyphStroke)) drawn (behind-matrix-within m))

@@ -1,15 +1,18 @@
 -- No point that the pen draws lies far from 0.
-use Rattle.std.proofs.Common.{◌≡◌, true, false, Bool, if◌then◌else◌, List, [], ◌∷◌, Option, Some, None, ℤ, pos, neg_ℤ, ◌+ℤ◌, ◌≤ℤ◌, int_le, refl}
+use Rattle.std.proofs.Common.{◌≡◌, true, false, Bool, if◌then◌else◌, List, [], ◌∷◌, Option, Some, None, ℤ, pos, neg_ℤ, ◌+ℤ◌, ◌*ℤ◌, ◌≤ℤ◌, int_le, refl}
 use Rattle.std.specs.Prelude.{◌&&◌, IfSome, option_and_then, option_map}
 use Rattle.std.specs.List.{All}
 use Rattle.std.proofs.lemmas.List.Elements.{All-nil, All-cons, All-push}
+use Rattle.ass_num.specs.Floor.{floor_div}
 use Rattle.ass_num.specs.Limits.{IsWithin, IsPointWithin}
 use Rattle.ass_num.specs.declared.geometry.Point.{Point}
 use Rattle.ass_num.proofs.OrderLemmas.{le_is}
+use Rattle.cff_font.specs.declared.decimals.FontMatrix.{FontMatrix}
 use Rattle.cff_font.specs.declared.pens.GlyphPen.{GlyphPen}
 use Rattle.outline_points.specs.declared.stroke.Stroke.{Stroke}
 use Rattle.outline_points.specs.declared.stroke.Stroke.TheVariants.{Line, Curve}
 use Rattle.outline_points.specs.CubicContours.{IsGlyphStroke}
+use Rattle.cff_font.specs.Matrices.{all_or_none, contours_behind, transformed, transformed_contour, transformed_point, transformed_stroke}
 use Rattle.cff_font.specs.Pens.{begun_contour, closed_contours, moved_pen, lifted_pen, lowered_pen, pen_behind, line_to, curve_to, drawn_curve, drawn_stroke, drawn_strokes}
 use Rattle.outline_points.specs.CubicContours.{max_stroke}
 use Rattle.cff_font.specs.Strokes.{glyph_coordinate, point_of, point_behind}
@@ -30,13 +33,39 @@ held_by z false high low most = tt
 held-within : (z : ℤ) → IfSome (glyph_coordinate z) (IsWithin max_stroke)
 held-within z = held_by z (int_le (neg_ℤ (pos max_stroke)) z) (int_le z (pos max_stroke)) (le_is (neg_ℤ (pos max_stroke)) z) (le_is z (pos max_stroke))
 
-point_of-within : (x y : Option ℤ) → IfSome x (IsWithin max_stroke) → IfSome y (IsWithin max_stroke) → IfSome (point_of x y) (IsPointWithin max_stroke)
+pub point_of-within : (x y : Option ℤ) → IfSome x (IsWithin max_stroke) → IfSome y (IsWithin max_stroke) → IfSome (point_of x y) (IsPointWithin max_stroke)
 point_of-within None y hx hy = tt
 point_of-within (Some x) None hx hy = tt
 point_of-within (Some x) (Some y) hx hy = record { x = hx; y = hy }
 
 behind-within : (p by : Point) → IfSome (point_behind p by) (IsPointWithin max_stroke)
 behind-within p by = point_of-within (glyph_coordinate (p.x +ℤ by.x)) (glyph_coordinate (p.y +ℤ by.y)) (held-within (p.x +ℤ by.x)) (held-within (p.y +ℤ by.y))
+
+-- ---- behind a matrix
+
+all-within : {X Y : Type 0} (f : X → Option Y) (P : Y → Type 0) (xs : List X) → ((x : X) → IfSome (f x) P) → IfSome (all_or_none f xs) (All P)
+all-within f P [] each = All-nil P
+all-within f P (x ∷ xs) each =
+    if_then (f x) (λ first. option_map (λ others. first ∷ others) (all_or_none f xs)) P (All P) (each x) (λ first k.
+    if_map (all_or_none f xs) (λ others. first ∷ others) (All P) (All P) (all-within f P xs each) (λ others ks. All-cons P first others k ks))
+
+transformed-within : (a x b y shift : ℤ) → IfSome (transformed a x b y shift) (IsWithin max_stroke)
+transformed-within a x b y shift = held-within (floor_div ((a *ℤ x) +ℤ (b *ℤ y) +ℤ pos 32768) (pos 65536) +ℤ shift)
+
+transformed-point-within : (m : FontMatrix) (p : Point) → IfSome (transformed_point m p) (IsPointWithin max_stroke)
+transformed-point-within m p = point_of-within (transformed m.xx p.x m.xy p.y m.x) (transformed m.yx p.x m.yy p.y m.y) (transformed-within m.xx p.x m.xy p.y m.x) (transformed-within m.yx p.x m.yy p.y m.y)
+
+transformed-stroke-within : (m : FontMatrix) (stroke : Stroke) → IfSome (transformed_stroke m stroke) IsGlyphStroke
+transformed-stroke-within m (Line p) = if_map (transformed_point m p) Line (IsPointWithin max_stroke) IsGlyphStroke (transformed-point-within m p) (λ q k. k)
+transformed-stroke-within m (Curve p q r) =
+    if_then (transformed_point m p) (λ a. option_and_then (λ b. option_map (Curve a b) (transformed_point m r)) (transformed_point m q)) (IsPointWithin max_stroke) IsGlyphStroke (transformed-point-within m p) (λ a ha.
+    if_then (transformed_point m q) (λ b. option_map (Curve a b) (transformed_point m r)) (IsPointWithin max_stroke) IsGlyphStroke (transformed-point-within m q) (λ b hb.
+    if_map (transformed_point m r) (Curve a b) (IsPointWithin max_stroke) IsGlyphStroke (transformed-point-within m r) (λ c hc. (ha, hb, hc))))
+
+pub behind-matrix-within : (m : Option FontMatrix) (contours : List (List Stroke)) → All (All IsGlyphStroke) contours → IfSome (contours_behind m contours) (All (All IsGlyphStroke))
+behind-matrix-within None contours h = h
+behind-matrix-within (Some m) contours h =
+    all-within (transformed_contour m) (All IsGlyphStroke) contours (λ contour. all-within (transformed_stroke m) IsGlyphStroke contour (transformed-stroke-within m))
 
 -- ---- pens
 

@@ -56,17 +56,17 @@ pub operands-broken : (bytes : List ℕ) (code : ℕ) (operands : Operands) (sto
 operands-broken bytes code operands stop k at less here = operands-turn bytes code operands stop k at None less here
 
 pub operands-number : (bytes : List ℕ) (code : ℕ) (operands : Operands) (stop k at : ℕ) (value : ℤ) (behind : ℕ) → k < stop → Some (Number value behind) ≡ dict_token bytes stop at →
-    operands_in code operands (dict_tokens bytes stop (stop - k) at) ≡ operands_in code (record { before = operands.last; last = value }) (dict_tokens bytes stop (stop - (k + 1)) behind)
+    operands_in code operands (dict_tokens bytes stop (stop - k) at) ≡ operands_in code (record { from = operands.from; before = operands.last; last = value }) (dict_tokens bytes stop (stop - (k + 1)) behind)
 operands-number bytes code operands stop k at value behind less here = operands-turn bytes code operands stop k at (Some (Number value behind)) less here
 
 operands-operator : (bytes : List ℕ) (code : ℕ) (operands : Operands) (stop k at other behind : ℕ) (same : Bool) → k < stop → Some (Operator other behind) ≡ dict_token bytes stop at → (other == code) ≡ same →
-    operands_in code operands (dict_tokens bytes stop (stop - k) at) ≡ cond same (Some operands) (operands_in code no_operands (dict_tokens bytes stop (stop - (k + 1)) behind))
+    operands_in code operands (dict_tokens bytes stop (stop - k) at) ≡ cond same (Some operands) (operands_in code (no_operands behind) (dict_tokens bytes stop (stop - (k + 1)) behind))
 operands-operator bytes code operands stop k at other behind same less here is =
     operands-turn bytes code operands stop k at (Some (Operator other behind)) less here
-    ∙ ap (λ b. cond b (Some operands) (operands_in code no_operands (dict_tokens bytes stop (stop - (k + 1)) behind))) is
+    ∙ ap (λ b. cond b (Some operands) (operands_in code (no_operands behind) (dict_tokens bytes stop (stop - (k + 1)) behind))) is
 
 pub operands-other : (bytes : List ℕ) (code : ℕ) (operands : Operands) (stop k at other behind : ℕ) → k < stop → Some (Operator other behind) ≡ dict_token bytes stop at → (other == code) ≡ false →
-    operands_in code operands (dict_tokens bytes stop (stop - k) at) ≡ operands_in code no_operands (dict_tokens bytes stop (stop - (k + 1)) behind)
+    operands_in code operands (dict_tokens bytes stop (stop - k) at) ≡ operands_in code (no_operands behind) (dict_tokens bytes stop (stop - (k + 1)) behind)
 operands-other bytes code operands stop k at other behind less here is = operands-operator bytes code operands stop k at other behind false less here is
 
 pub operands-found : (bytes : List ℕ) (code : ℕ) (operands : Operands) (stop k at other behind : ℕ) → k < stop → Some (Operator other behind) ≡ dict_token bytes stop at → (other == code) ≡ true →

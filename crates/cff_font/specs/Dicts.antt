@@ -16,7 +16,7 @@ abbrev pub behind_real : List ℕ → ℕ → ℕ → Option ℕ
 behind_real bytes zero at = None
 behind_real bytes (suc n) at = if ends_real (u8_at bytes at) then Some (at + 1) else behind_real bytes n (at + 1)
 
--- a real number, which counts as 0
+-- a real number, which counts as 0 but in a matrix
 abbrev pub real_number : ℕ → Token
 real_number behind = Number (pos 0) behind
 
@@ -41,15 +41,16 @@ unfoldable pub dict_tokens : List ℕ → ℕ → ℕ → ℕ → List Token
 dict_tokens bytes stop zero at = []
 dict_tokens bytes stop (suc n) at = token_and (dict_tokens bytes stop n) (dict_token bytes stop at)
 
-abbrev pub no_operands : Operands
-no_operands = record { before = pos 0; last = pos 0 }
+-- none yet, from a place on
+abbrev pub no_operands : ℕ → Operands
+no_operands from = record { from = from; before = pos 0; last = pos 0 }
 
--- the last two numbers before the first operator of this kind, 0 for a missing one, where two others were read before
+-- the place where the operands of the first operator of this kind begin, and the last two numbers before it, 0 for a missing one, where others were read before
 abbrev pub operands_in : ℕ → Operands → List Token → Option Operands
 operands_in code operands [] = None
-operands_in code operands (Number value behind ∷ tokens) = operands_in code (record { before = operands.last; last = value }) tokens
-operands_in code operands (Operator other behind ∷ tokens) = if other == code then Some operands else operands_in code no_operands tokens
+operands_in code operands (Number value behind ∷ tokens) = operands_in code (record { from = operands.from; before = operands.last; last = value }) tokens
+operands_in code operands (Operator other behind ∷ tokens) = if other == code then Some operands else operands_in code (no_operands behind) tokens
 
--- the last two operands of an operator of a DICT
+-- where the operands of an operator of a DICT begin, and the last two of them
 abbrev pub operands_of : List ℕ → Span → ℕ → Option Operands
-operands_of bytes dict code = operands_in code no_operands (dict_tokens bytes dict.to (dict.to - dict.from) dict.from)
+operands_of bytes dict code = operands_in code (no_operands dict.from) (dict_tokens bytes dict.to (dict.to - dict.from) dict.from)

@@ -10,6 +10,7 @@ use Rattle.cff_font.specs.declared.tokens.Token.{Token}
 use Rattle.cff_font.specs.declared.tokens.Token.TheVariants.{Number, Operator}
 use Rattle.cff_font.specs.Indexes.{item_at}
 use Rattle.cff_font.specs.Machines.{charstring_token, first_machine, run}
+use Rattle.cff_font.specs.Matrices.{contours_behind, glyph_matrix}
 use Rattle.cff_font.specs.Pens.{closed_contours}
 use Rattle.cff_font.specs.Subroutines.{local_subroutines}
 
@@ -33,9 +34,9 @@ abbrev pub contours_if_whole : Option (List (List Stroke)) → List (List Stroke
 contours_if_whole None = []
 contours_if_whole (Some contours) = contours
 
--- The contours of glyph g, in 1/65,536 of a unit, y upwards. Each begins with a line to its first point.
-abbrev pub cff_contours : List ℕ → CffFont → ℕ → List (List Stroke)
-cff_contours bytes font g = contours_if_whole (glyph_contours bytes font g)
+-- The contours of glyph g of a font whose em has so many units, in 1/65,536 of a unit, y upwards, behind the glyph's matrix. Each begins with a line to its first point.
+abbrev pub cff_contours : List ℕ → CffFont → ℕ → ℕ → List (List Stroke)
+cff_contours bytes font units g = contours_if_whole (option_and_then (contours_behind (glyph_matrix bytes font units g)) (glyph_contours bytes font g))
 
 -- ---- glyphs that draw nothing at sight
 

@@ -9,11 +9,11 @@ use Rattle.outline_points.specs.CubicContours.{IsGlyphStroke}
 
 -- Each glyph of each font has contours, maybe none, whatever its bytes are.
 abbrev pub AreContoursTotal : Type 0
-AreContoursTotal = (bytes : List ℕ) (font : CffFont) (g : ℕ) → All (All IsGlyphStroke) (cff_contours bytes font g)
+AreContoursTotal = (bytes : List ℕ) (font : CffFont) (units g : ℕ) → All (All IsGlyphStroke) (cff_contours bytes font units g)
 
 -- A glyph that is blank at sight has no contours.
 abbrev pub AreBlanksEmpty : Type 0
-AreBlanksEmpty = (bytes : List ℕ) (font : CffFont) (g : ℕ) → is_blank_at_sight bytes font g ≡ true → cff_contours bytes font g ≡ []
+AreBlanksEmpty = (bytes : List ℕ) (font : CffFont) (units g : ℕ) → is_blank_at_sight bytes font g ≡ true → cff_contours bytes font units g ≡ []
 
 -- a fault is at one of the bytes of a table, or at its end
 abbrev pub IsFaultIn : {T : Type 0} → Span → Result T CffRefusal → Type 0

@@ -1,9 +1,12 @@
 pub mod Tokens
+pub mod Reals
+pub mod KeptReals
 pub mod Dicts
 pub mod Indexes
 pub mod Fonts
 pub mod Subroutines
 pub mod Strokes
+pub mod Matrices
 pub mod Pens
 pub mod Machines
 pub mod Glyphs

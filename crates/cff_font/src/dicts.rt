@@ -1,15 +1,16 @@
 //! DICTs: lists of operators, each behind its operands.
 
 ghost use Rattle.std.specs.Prelude.{◌≡◌, ◌<◌, ◌-◌, ◌^◌};
-ghost use Rattle.cff_font.specs.Dicts.{ends_real, behind_real, dict_token_of, dict_token, operands_of};
+ghost use Rattle.cff_font.specs.Dicts.{ends_real, behind_real, dict_token_of, dict_token, no_operands, operands_of};
 ghost use Rattle.cff_font.specs.Ranges.{IsFileSpan};
 
 use crate::tokens::{Span, Token, number_before, operator_at, s32_at, whole_number};
 use font_bytes::u8_at;
 
-/// The last two operands of an operator.
+/// Where the operands of an operator begin, and the last two of them.
 #[derive(Clone, Copy)]
 pub struct Operands {
+    pub from: usize,
     pub before: i64,
     pub last: i64,
 }
@@ -56,7 +57,7 @@ fn dict_token_of(bytes: &[u8], stop: usize, at: usize, b: u8) -> Option<Token>
 }
 
 /// The number or operator at a place of a DICT that ends at `stop`.
-fn dict_token(bytes: &[u8], stop: usize, at: usize) -> Option<Token>
+pub fn dict_token(bytes: &[u8], stop: usize, at: usize) -> Option<Token>
     requires { stop < 2 ^ 38 }
     ensures { result ≡ dict_token bytes.now stop at }
 {
@@ -66,17 +67,29 @@ fn dict_token(bytes: &[u8], stop: usize, at: usize) -> Option<Token>
     dict_token_of(bytes, stop, at, u8_at(bytes, at))
 }
 
-/// The last two operands of the first operator of this kind, 0 for a missing one.
+/// No operands yet, from a place on.
+fn no_operands(from: usize) -> Operands
+    ensures { result ≡ no_operands from }
+{
+    Operands {
+        from,
+        before: 0,
+        last: 0,
+    }
+}
+
+/// Where the operands of the first operator of this kind begin, and the last two of them, 0 for a missing one.
 pub fn operands_of(bytes: &[u8], dict: Span, code: u16) -> Option<Operands>
     requires { IsFileSpan dict }
     ensures { result ≡ operands_of bytes.now dict code }
 {
     let mut at = dict.from;
-    let mut operands = Operands { before: 0, last: 0 };
+    let mut operands = no_operands(at);
     for _k in dict.from..dict.to {
         match dict_token(bytes, dict.to, at)? {
             Token::Number(value, behind) => {
                 operands = Operands {
+                    from: operands.from,
                     before: operands.last,
                     last: value,
                 };
@@ -86,7 +99,7 @@ pub fn operands_of(bytes: &[u8], dict: Span, code: u16) -> Option<Operands>
                 if other == code {
                     return Some(operands);
                 }
-                operands = Operands { before: 0, last: 0 };
+                operands = no_operands(behind);
                 at = behind;
             }
         }

@@ -1,16 +1,20 @@
 //! The contours of glyphs.
 
-ghost use Rattle.std.specs.Prelude.{◌≡◌, IfOk};
+ghost use Rattle.std.specs.Prelude.{◌≡◌, IfOk, IfSome};
 ghost use Rattle.cff_font.specs.Glyphs.{charstring_contours, glyph_contours, cff_contours};
+ghost use Rattle.cff_font.specs.Matrices.{contours_behind, IsGlyphMatrix};
 ghost use Rattle.cff_font.specs.Ranges.{IsCffFont, IsFileIndex, IsFileSpan};
 
+use crate::decimals::FontMatrix;
 use crate::indexes::{Index, item_at};
 use crate::machine::{Program, first_machine};
+use crate::matrices::glyph_matrix;
 use crate::pens::closed_contours;
 use crate::read::CffFont;
 use crate::steps::run;
 use crate::subroutines::local_subroutines;
 use crate::tokens::Span;
+use crate::transforms::transformed_contours;
 use ass_num::{FlatLists, Mem};
 use outline_points::Stroke;
 use std::alloc::Global;
@@ -59,14 +63,40 @@ fn glyph_contours(
     }
 }
 
-/// The contours of a glyph, in 1/65,536 of a unit, y upwards: closed, of lines and cubic curves, each with a line to its
-/// first point in front. A broken glyph has none.
-pub fn cff_contours(alloc: Global, bytes: &[u8], font: &CffFont, g: u16) -> Mem<FlatLists<Stroke>>
-    requires { IsCffFont font.now }
-    ensures { IfOk result (λ contours. contours ≡ cff_contours bytes.now font.now g) }
+/// The contours behind the matrix of a glyph; `None` where a point is too far from 0.
+fn contours_behind(
+    alloc: Global,
+    matrix: Option<FontMatrix>,
+    contours: FlatLists<Stroke>,
+) -> Mem<Option<FlatLists<Stroke>>>
+    requires { IfSome matrix IsGlyphMatrix }
+    ensures { IfOk result (λ all. all ≡ contours_behind matrix contours) }
 {
-    match glyph_contours(alloc, bytes, font, g)? {
+    match matrix {
+        Some(m) => transformed_contours(alloc, &m, &contours),
+        None => Ok(Some(contours)),
+    }
+}
+
+/// The contours of a glyph of a font whose em has so many units, in 1/65,536 of a unit, y upwards: closed, of lines and
+/// cubic curves, each with a line to its first point in front, behind the glyph's matrix. A broken glyph has none.
+pub fn cff_contours(
+    alloc: Global,
+    bytes: &[u8],
+    font: &CffFont,
+    units: u16,
+    g: u16,
+) -> Mem<FlatLists<Stroke>>
+    requires { IsCffFont font.now }
+    ensures { IfOk result (λ contours. contours ≡ cff_contours bytes.now font.now units g) }
+{
+    let none = FlatLists::new(alloc);
+    let Some(drawn) = glyph_contours(alloc, bytes, font, g)? else {
+        return Ok(none);
+    };
+    let matrix = glyph_matrix(bytes, font, units, g);
+    match contours_behind(alloc, matrix, drawn)? {
         Some(contours) => Ok(contours),
-        None => Ok(FlatLists::new(alloc)),
+        None => Ok(none),
     }
 }

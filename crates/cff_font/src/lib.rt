@@ -3,6 +3,7 @@
 
 mod blanks;
 mod cause;
+mod decimals;
 mod dicts;
 mod flex;
 mod glyphs;
@@ -10,13 +11,16 @@ mod indexes;
 mod laws;
 mod lists;
 mod machine;
+mod matrices;
 mod operators;
 mod pens;
 mod read;
+mod reals;
 mod steps;
 mod strokes;
 mod subroutines;
 mod tokens;
+mod transforms;
 
 pub use blanks::cff_is_blank;
 pub use cause::{CffCause, CffRefusal};

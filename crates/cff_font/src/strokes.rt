@@ -3,7 +3,7 @@
 ghost use Rattle.std.specs.Prelude.{◌≡◌, ◌++◌, ◌+ℤ◌, OnOk, IfSome};
 ghost use Rattle.ass_num.specs.Limits.{IsPointWithin, IsWithin};
 ghost use Rattle.outline_points.specs.CubicContours.{max_stroke};
-ghost use Rattle.cff_font.specs.Strokes.{glyph_coordinate, point_behind, step_along, stroke_lines, turning_lines, curves_of, even_curves};
+ghost use Rattle.cff_font.specs.Strokes.{glyph_coordinate, point_of, point_behind, step_along, stroke_lines, turning_lines, curves_of, even_curves};
 ghost use Rattle.cff_font.specs.Strokes.{even_curves_of, sole, turning_curves, end_of_steps, last_step};
 
 use ass_num::{Mem, Point};
@@ -12,16 +12,36 @@ use outline_points::Stroke;
 /// The farthest from 0 that a coordinate may be: 65,535 units.
 const MAX_STROKE: i128 = 4_294_901_760;
 
-/// The sum of a coordinate and a step, if it isn't too far from 0.
-fn held_sum(coordinate: i64, step: i64) -> Option<i64>
+/// A coordinate that isn't too far from 0.
+pub fn glyph_coordinate(z: i128) -> Option<i64>
+    ensures value { result ≡ glyph_coordinate z }
+    ensures within { IfSome result (IsWithin max_stroke) }
+{
+    if -MAX_STROKE <= z && z <= MAX_STROKE {
+        return Some(z as i64);
+    }
+    None
+}
+
+/// A coordinate and a step, if their sum isn't too far from 0.
+fn coordinate_behind(coordinate: i64, step: i64) -> Option<i64>
     ensures value { result ≡ glyph_coordinate (coordinate +ℤ step) }
     ensures within { IfSome result (IsWithin max_stroke) }
 {
-    let sum = i128::from(coordinate) + i128::from(step);
-    if -MAX_STROKE <= sum && sum <= MAX_STROKE {
-        return Some(sum as i64);
+    glyph_coordinate(i128::from(coordinate) + i128::from(step))
+}
+
+/// The point of two coordinates, if both are there.
+pub fn point_of(x: Option<i64>, y: Option<i64>) -> Option<Point>
+    ensures { result ≡ point_of x y }
+{
+    match x {
+        Some(x) => match y {
+            Some(y) => Some(Point { x, y }),
+            None => None,
+        },
+        None => None,
     }
-    None
 }
 
 /// The point that is a step behind another, if it isn't too far from 0.
@@ -29,13 +49,10 @@ pub fn point_behind(point: Point, step: Point) -> Option<Point>
     ensures value { result ≡ point_behind point step }
     ensures within { IfSome result (IsPointWithin max_stroke) }
 {
-    match held_sum(point.x, step.x) {
-        Some(x) => match held_sum(point.y, step.y) {
-            Some(y) => Some(Point { x, y }),
-            None => None,
-        },
-        None => None,
-    }
+    point_of(
+        coordinate_behind(point.x, step.x),
+        coordinate_behind(point.y, step.y),
+    )
 }
 
 /// A step along an axis, and one across it.

@@ -55,7 +55,7 @@ fn dict_number(bytes: &[u8], stop: usize, select: usize, g: u16) -> Option<usize
 }
 
 /// The font DICT of glyph g.
-fn glyph_dict(bytes: &[u8], font: &CffFont, g: u16) -> Option<Span>
+pub fn glyph_dict(bytes: &[u8], font: &CffFont, g: u16) -> Option<Span>
     requires { IsCffFont font.now }
     ensures value { result ≡ glyph_dict bytes.now font.now g font.now.dicts }
     ensures within { IfSome result IsFileSpan }

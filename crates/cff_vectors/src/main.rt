@@ -64,15 +64,15 @@ fn table_of(bytes: &[u8], place: &str, size: &str) -> Span
     Span { from, to }
 }
 
-/// The contours of a glyph.
-fn glyph_told(alloc: Global, bytes: &[u8], table: Span, g: u16) -> Mem<String>
+/// The contours of a glyph of a font whose em has so many units.
+fn glyph_told(alloc: Global, bytes: &[u8], table: Span, units: u16, g: u16) -> Mem<String>
     requires { IsFileSpan table }
 {
     let font = match read_cff(bytes, table) {
         Ok(font) => font,
         Err(refusal) => return Ok(format!(in alloc; "{refusal:?}")?),
     };
-    let contours = cff_contours(alloc, bytes, &font, g)?;
+    let contours = cff_contours(alloc, bytes, &font, units, g)?;
     let mut text = String::new(alloc);
     for k in 0..contours.len() {
         text.push_str(contour_told(alloc, contours.get(k))?.as_str())?;
@@ -92,7 +92,9 @@ fn told(alloc: Global, bytes: &[u8], row: &str) -> Mem<String> {
     }
     let table = table_of(bytes, place, size);
     if kind == "glyph" {
-        return glyph_told(alloc, bytes, table, glyph.parse::<u16>().unwrap_or(0));
+        let g = glyph.parse::<u16>().unwrap_or(0);
+        let units = words.next().unwrap_or("").parse::<u16>().unwrap_or(1_000);
+        return glyph_told(alloc, bytes, table, units, g);
     }
     match read_cff(bytes, table) {
         Ok(font) => Ok(format!(in alloc; "{font:?}")?),

@@ -29,17 +29,17 @@ loop-k-preserved c =
           let before : FitsSigned w64 c.loop-k.operands.last = search rules in
           let last : FitsSigned w64 w.in-Number.value = search rules in
           ap (λ operands. rest operands c.match-branch-2.at) w.operands-is
-          ∙ (ap (λ z. rest (record { before = z; last = to_z w64 (of_z w64 w.in-Number.value) }) c.match-branch-2.at) (to_z-of_z before)
-          ∙ (ap (λ z. rest (record { before = c.loop-k.operands.last; last = z }) c.match-branch-2.at) (to_z-of_z last)
-          ∙ (ap (rest (record { before = c.loop-k.operands.last; last = w.in-Number.value })) w.at-is
+          ∙ (ap (λ z. rest (record { from = c.loop-k.operands.from; before = z; last = to_z w64 (of_z w64 w.in-Number.value) }) c.match-branch-2.at) (to_z-of_z before)
+          ∙ (ap (λ z. rest (record { from = c.loop-k.operands.from; before = c.loop-k.operands.last; last = z }) c.match-branch-2.at) (to_z-of_z last)
+          ∙ (ap (rest (record { from = c.loop-k.operands.from; before = c.loop-k.operands.last; last = w.in-Number.value })) w.at-is
           ∙ (sym (operands-number c.args.bytes.now c.args.code c.loop-k.operands c.args.dict.to c.loop-k._k c.loop-k.at w.in-Number.value w.in-Number.behind c.loop-k-test.true here)
           ∙ c.loop-k.invariant))))
       | in-Operator+else-other-code w ↦
           let here : Some (Operator w.in-Operator.other w.in-Operator.behind) ≡ dict_token c.args.bytes.now c.args.dict.to c.loop-k.at =
           ap Some (sym w.in-Operator.is) ∙ c.in_ok-value.ensures in
           let differs : (w.in-Operator.other == c.args.code) ≡ false = search rules in
-          ap (λ operands. rest operands c.match-branch-2.at) w.operands-is
-          ∙ (ap (rest no_operands) w.at-is
+          ap (λ operands. rest operands c.match-branch-2.at) (w.operands-is ∙ w.no_operands-operands-in-Operator.ensures)
+          ∙ (ap (rest (no_operands w.in-Operator.behind)) w.at-is
           ∙ (sym (operands-other c.args.bytes.now c.args.code c.loop-k.operands c.args.dict.to c.loop-k._k c.loop-k.at w.in-Operator.other w.in-Operator.behind c.loop-k-test.true here differs)
           ∙ c.loop-k.invariant))
     ]
