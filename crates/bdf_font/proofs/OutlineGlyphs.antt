@@ -78,7 +78,7 @@ bar_sound (Some bar) is = record { top = is.top; size = (is.size, omega (arith, 
 
 shape_sound : (font : SfntFont) (outlines : Outlines) (g : ℕ) → IsShape (outline_shape font outlines g)
 shape_sound font (TrueTypeOutlines loca glyf) g = contours_within font g
-shape_sound font (PostScriptOutlines cff) g = contours-within font.bytes cff g
+shape_sound font (PostScriptOutlines cff) g = contours-within font.bytes cff font.numbers.units g
 
 glyph_sound : (font : SfntFont) (code : ℤ) → IsSfntFont font → IsGlyph (outline_glyph font code)
 glyph_sound font code is =

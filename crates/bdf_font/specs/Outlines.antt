@@ -1,4 +1,4 @@
--- Public: a TrueType font as a list of glyphs: one for each code of its map in ascending order, and behind them that of missing characters.
+-- Public: an OpenType font as a list of glyphs: one for each code of its map in ascending order, and behind them that of missing characters.
 use Rattle.std.specs.Prelude.{ℕ, Bool, true, ◌==◌, List, map, Some, ℤ, pos}
 use Rattle.sfnt_font.specs.declared.font.SfntFont.{SfntFont}
 use Rattle.sfnt_font.specs.Codes.{font_codes, glyph_of_code, missing_code}
@@ -16,7 +16,7 @@ use Rattle.bdf_font.specs.Fonts.{FontValue}
 -- the shape of glyph g, and whether it is blank, by what the font's glyphs are drawn from
 abbrev pub outline_shape : SfntFont → Outlines → ℕ → GlyphShape
 outline_shape font (TrueTypeOutlines loca glyf) g = shape.Contours (contours_of font g)
-outline_shape font (PostScriptOutlines cff) g = shape.Strokes (cff_contours font.bytes cff g)
+outline_shape font (PostScriptOutlines cff) g = shape.Strokes (cff_contours font.bytes cff font.numbers.units g)
 
 abbrev pub is_blank_outline : SfntFont → Outlines → ℕ → Bool
 is_blank_outline font (TrueTypeOutlines loca glyf) g = is_blank_glyph font g

@@ -73,7 +73,8 @@ pub fn outline_strokes(alloc: Global, font: &SfntFont, place: u32) -> Mem<FlatLi
     match &font.tables().outlines {
         Outlines::TrueTypeOutlines(_, _) => Ok(FlatLists::new(alloc)),
         Outlines::PostScriptOutlines(cff) => {
-            cff_contours(alloc, font.bytes(), cff, font.glyph_at(place))
+            let units = font.numbers().units;
+            cff_contours(alloc, font.bytes(), cff, units, font.glyph_at(place))
         }
     }
 }

@@ -65,3 +65,15 @@ test_one P true true o p q r e h k = h refl
 test_one P false false o p q r e h k = k refl
 test_one P true false o p q r e h k = absurd cc
 test_one P false true o p q r e h k = absurd cc
+
+-- ---- values of which nothing is asked
+
+abbrev pub IsAny : {T : Type 0} → T → Type 0
+IsAny x = Unit {0}
+
+pub any_of : {T : Type 0} (o : Option T) → IfSome o IsAny
+any_of None = tt
+any_of (Some x) = tt
+
+pub any_one : {T : Type 0} (o p : Option T) → o ≡ p → AreOne IsAny o p
+any_one o p e = record { same = e; holds = any_of o }

@@ -1,5 +1,6 @@
 pub mod Agreed
 pub mod SameIndexes
+pub mod SameMatrices
 pub mod SameCff
 pub mod SameCharstrings
 pub mod SameTables

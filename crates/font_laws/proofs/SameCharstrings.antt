@@ -1,5 +1,5 @@
 -- Files that agree on a table of PostScript outlines have the same contours of each glyph.
-use Rattle.std.proofs.Common.{◌≡◌, ℕ, zero, suc, ◌+◌, ◌-◌, ◌*◌, ◌/◌, ◌<◌, ◌≤◌, List, length, take, Bool, true, false, cond, ◌&&◌, ◌||◌, not, Option, Some, None, inl, inr, ℤ, pos, ◌+ℤ◌, refl, ap, sym, ◌∙◌, arith}
+use Rattle.std.proofs.Common.{◌≡◌, ℕ, zero, suc, ◌+◌, ◌-◌, ◌*◌, ◌/◌, ◌<◌, ◌≤◌, List, length, take, Bool, true, false, cond, ◌&&◌, ◌||◌, not, Option, Some, None, inl, inr, ℤ, pos, ◌+ℤ◌, refl, ap, ap₂, sym, ◌∙◌, arith}
 use Rattle.std.specs.List.{All}
 use Rattle.std.specs.Prelude.{nat_lt, nat_le, ◌==◌, int_le, unsigned_abs, slice_index_or, IfSome, option_and_then, option_map}
 use Rattle.std.specs.Ordering.{int_eq}
@@ -21,6 +21,7 @@ use Rattle.cff_font.specs.Glyphs.{cff_contours, charstring_contours, contours_if
 use Rattle.cff_font.specs.Indexes.{index_at, item_at, no_items}
 use Rattle.cff_font.specs.Machines.{machine_at, behind_code, behind_drawing, behind_hints, behind_mask, behind_masked, behind_operator, called, charstring_token, behind_end, first_machine, in_fractions, in_subroutine, is_hint_code, is_mask_code, max_calls}
 use Rattle.cff_font.specs.Machines.{max_hints, max_operands, moved_by, empty_span, one_unit, bias_of, operand_before_last, returned, run, behind_step, subroutine_named, with_pen}
+use Rattle.cff_font.specs.Matrices.{contours_behind, dict_matrix, glyph_matrix, matrix_by, own_matrix}
 use Rattle.cff_font.specs.Pens.{drawn_strokes, moved_pen}
 use Rattle.cff_font.specs.Strokes.{strokes_of, step}
 use Rattle.cff_font.specs.Subroutines.{dict_by_list, dict_by_ranges, dict_number, dict_subroutines, glyph_dict, local_subroutines, private_dict, private_subroutines, range_dict, span_before, subroutines_named}
@@ -29,19 +30,10 @@ use Rattle.ass_num.specs.declared.geometry.Point.{Point}
 use Rattle.outline_points.specs.declared.stroke.Stroke.{Stroke}
 use Rattle.std.specs.Int.{int_rem_euclid}
 use Rattle.font_laws.specs.Laws.{AgreeOn}
-use Rattle.font_laws.proofs.Agreed.{AreOne, none_is, map_one, test_one, then_one, u8_same, u16_same, if_same}
+use Rattle.font_laws.proofs.Agreed.{AreOne, IsAny, any_one, none_is, map_one, test_one, then_one, u8_same, u16_same, if_same}
 use Rattle.font_laws.proofs.SameIndexes.{IsIndexFrom, IsItemsFrom, IsSpanFrom, IsTokenBehind, index_one, item_one, number_one, operands_same, operator_one, s32_same, whole_number_one}
+use Rattle.font_laws.proofs.SameMatrices.{dict_matrix_same}
 use Rattle.font_laws.proofs.SameCff.{AreDictsFrom, IsFontFrom, offset_low}
-
-abbrev IsAny : {T : Type 0} → T → Type 0
-IsAny x = Unit {0}
-
-any_of : {T : Type 0} (o : Option T) → IfSome o IsAny
-any_of None = tt
-any_of (Some x) = tt
-
-any_one : {T : Type 0} (o p : Option T) → o ≡ p → AreOne IsAny o p
-any_one o p e = record { same = e; holds = any_of o }
 
 -- ---- the font DICT of a glyph
 
@@ -315,8 +307,18 @@ glyph_one a b font g h =
     map_one IsAny IsAny _ _ drawn_by (run_one a b font.place font.stop (record { shared = font.globals; own = own }) max_steps (first_machine body) h.agree
     (record { shared = inr h.is.globals; own = own_from }) (first_from font.place font.stop body inside)) (λ m _. tt)))
 
-pub cff_contours_same : (a b : List ℕ) (font : CffFont) (g : ℕ) → IsWholeFont a b font → cff_contours a font g ≡ cff_contours b font g
-cff_contours_same a b font g h = ap contours_if_whole (glyph_one a b font g h).same
+own_matrix_same : (a b : List ℕ) (font : CffFont) (g : ℕ) (dicts : Option FontDicts) → IsWholeFont a b font → IfSome dicts (AreDictsFrom font.place font.stop) → own_matrix a font g dicts ≡ own_matrix b font g dicts
+own_matrix_same a b font g None h from = refl
+own_matrix_same a b font g (Some dicts) h from =
+    (then_one (IsSpanOf font) IsAny _ _ (dict_matrix a) (dict_matrix b) (glyph_dict_one a b font g (Some dicts) h from) (λ dict is.
+    any_one _ _ (dict_matrix_same a b font.place font.stop dict h.agree is))).same
+
+glyph_matrix_same : (a b : List ℕ) (font : CffFont) (units g : ℕ) → IsWholeFont a b font → glyph_matrix a font units g ≡ glyph_matrix b font units g
+glyph_matrix_same a b font units g h = ap₂ (matrix_by units) (dict_matrix_same a b font.place font.stop font.top h.agree h.is.top) (own_matrix_same a b font g font.dicts h h.is.dicts)
+
+pub cff_contours_same : (a b : List ℕ) (font : CffFont) (units g : ℕ) → IsWholeFont a b font → cff_contours a font units g ≡ cff_contours b font units g
+cff_contours_same a b font units g h =
+    ap₂ (λ matrix contours. contours_if_whole (option_and_then (contours_behind matrix) contours)) (glyph_matrix_same a b font units g h) (glyph_one a b font g h).same
 
 ends_same : (from : ℕ) (f g : ℕ → Bool) (o p : Option Token) → AreOne (IsTokenBehind from) o p → ((at : ℕ) → from ≤ at → f at ≡ g at) → ends_by f o ≡ ends_by g p
 ends_same from f g None p one e = ap (ends_by g) one.same

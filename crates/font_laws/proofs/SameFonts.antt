@@ -45,7 +45,7 @@ fonts_alike a b tables numbers m segments names h = record {
   advances = λ glyph. advance_same a b tables.hmtx numbers.advances glyph h.agree.hmtx.0;
   blanks = λ glyph. ap is_none (stretch_same a b tables numbers m segments names glyph h.agree);
   contours = λ glyph. contours_same a b tables numbers m segments names glyph h.agree;
-  strokes = λ cff glyph is. cff_contours_same a b cff glyph (subst (AgreeOnOutlines a b) is h.agree.outlines);
+  strokes = λ cff units glyph is. cff_contours_same a b cff units glyph (subst (AgreeOnOutlines a b) is h.agree.outlines);
   blank_strokes = λ cff glyph is. cff_blank_same a b cff glyph (subst (AgreeOnOutlines a b) is h.agree.outlines);
 }
 

@@ -204,7 +204,7 @@ dict_token_of_one a b from to stop at byte h low inside short =
     (λ _. map_one (λ place. from ≤ place) P _ _ real_number (real_one a b from to (stop - (at + 1)) (at + 1) h (omega (arith, low)) (omega (arith, inside, short))) (λ place behind. behind))
     (λ _. whole_number_one a b from to stop at byte h low short)))
 
-dict_token_one : (a b : List ℕ) (from to stop at : ℕ) → AgreeOn a b from to → from ≤ at → stop ≤ to → AreOne (IsTokenBehind from) (dict_token a stop at) (dict_token b stop at)
+pub dict_token_one : (a b : List ℕ) (from to stop at : ℕ) → AgreeOn a b from to → from ≤ at → stop ≤ to → AreOne (IsTokenBehind from) (dict_token a stop at) (dict_token b stop at)
 dict_token_one a b from to stop at h low short =
     test_one (IsTokenBehind from) (nat_le stop at) (nat_le stop at) _ _ _ _ refl (λ _. none_is (IsTokenBehind from)) (λ before.
     let inside : at < stop = leb-false stop at before in
@@ -222,4 +222,4 @@ tokens_same a b from to stop (suc n) at h low short =
     token_and_same from (dict_tokens a stop n) (dict_tokens b stop n) (dict_token a stop at) (dict_token b stop at) (dict_token_one a b from to stop at h low short) (λ place behind. tokens_same a b from to stop n place h behind short)
 
 pub operands_same : (a b : List ℕ) (from to : ℕ) (dict : Span) (code : ℕ) → AgreeOn a b from to → IsSpanFrom from to dict → operands_of a dict code ≡ operands_of b dict code
-operands_same a b from to dict code h is = ap (operands_in code no_operands) (tokens_same a b from to dict.to (dict.to - dict.from) dict.from h is.low is.high)
+operands_same a b from to dict code h is = ap (operands_in code (no_operands dict.from)) (tokens_same a b from to dict.to (dict.to - dict.from) dict.from h is.low is.high)

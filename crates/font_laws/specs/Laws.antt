@@ -61,7 +61,7 @@ pub record AreFontsAlike (f g : SfntFont) : Type 0 where
   pub advances : (glyph : ℕ) → advance_of f glyph ≡ advance_of g glyph
   pub blanks : (glyph : ℕ) → is_blank_glyph f glyph ≡ is_blank_glyph g glyph
   pub contours : (glyph : ℕ) → contours_of f glyph ≡ contours_of g glyph
-  pub strokes : (cff : CffFont) (glyph : ℕ) → f.tables.outlines ≡ PostScriptOutlines cff → cff_contours f.bytes cff glyph ≡ cff_contours g.bytes cff glyph
+  pub strokes : (cff : CffFont) (units glyph : ℕ) → f.tables.outlines ≡ PostScriptOutlines cff → cff_contours f.bytes cff units glyph ≡ cff_contours g.bytes cff units glyph
   pub blank_strokes : (cff : CffFont) (glyph : ℕ) → f.tables.outlines ≡ PostScriptOutlines cff → is_blank_at_sight f.bytes cff glyph ≡ is_blank_at_sight g.bytes cff glyph
 
 -- the same fault, or fonts alike

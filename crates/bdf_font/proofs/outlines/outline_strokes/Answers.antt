@@ -16,4 +16,4 @@ cff_contours-requires c =
 pub returns-in-PostScriptOutlines : goal.returns-in-PostScriptOutlines
 returns-in-PostScriptOutlines c =
     let is = ap (λ (t : Tables). t.outlines) (sym c.tables.ensures) ∙ c.in-PostScriptOutlines.is in
-    rw (shape_at_place strokes_in c.args.font.now c.args.place _ c.requires.place is, ← c.glyph_at.ensures, ← c.bytes.ensures) c.cff_contours.ensures
+    rw (shape_at_place strokes_in c.args.font.now c.args.place _ c.requires.place is, ← c.glyph_at.ensures, ← c.bytes.ensures, ← c.numbers.ensures) c.cff_contours.ensures
