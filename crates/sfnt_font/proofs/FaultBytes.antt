@@ -15,7 +15,6 @@ use Rattle.sfnt_font.specs.declared.maps.CharacterMap.{CharacterMap}
 use Rattle.sfnt_font.specs.declared.maps.Choice.{Choice}
 use Rattle.sfnt_font.specs.declared.maps.MapFormat.{MapFormat}
 use Rattle.sfnt_font.specs.declared.maps.MapFormat.TheVariants.{Ranges, Groups}
-use Rattle.sfnt_font.specs.declared.tables.Outlines.{Outlines}
 use Rattle.sfnt_font.specs.declared.tables.Tables.{Tables}
 use Rattle.cff_font.specs.declared.cause.CffRefusal.{CffRefusal}
 use Rattle.cff_font.specs.declared.read.CffFont.{CffFont}
