@@ -5,11 +5,13 @@ use Rattle.std.specs.Map.{lookup}
 use Rattle.std.proofs.lemmas.List.Sums.{sum_by_push}
 use Rattle.turn_cell.specs.History.{History}
 use Rattle.evict_core.specs.Recency.{without_last, change, to_front}
-use Rattle.evict_core.specs.Machine.{Status, Flying, Ready, State, Hit, Claim, Crowded, Step, Ask, PinAll, Fill, Fail, Unpin, Limits, last_count, raised, is_idle, has_idle, one_pin_more, one_pin_less, maker_in, evict, trim, status_of, hit, hit_all, room_for_one, put_first, state_after, IsEnabled}
+use Rattle.evict_core.specs.Machine.{Status, Flying, Ready, State, Hit, Claim, Crowded, Step, Ask, PinAll, Fill, Fail, Spill, Unpin, Limits, Hard, flying_one, flying, last_count, raised, is_idle, has_idle, one_pin_more, one_pin_less, maker_in, evict, trim, status_of, hit, hit_all, room_for_one, put_first, state_after, IsEnabled}
 use Rattle.evict_core.specs.History.{opening, replay, pins_held, IsLegal}
 use Rattle.evict_core.specs.declared.counts.Counts.{Counts}
-use Rattle.evict_core.specs.Counting.{flying_one, ready_one, flying, ready, counts_of, tally, CountsSay}
+use Rattle.evict_core.specs.declared.hard_limit.HardLimit.{HardLimit}
+use Rattle.evict_core.specs.Counting.{ready_one, ready, counts_of, tally, CountsSay}
 use Rattle.evict_core.proofs.SumLemmas.{weight_in, total-change, total-remove, total-to_front, total-without_last}
+use Rattle.evict_core.proofs.FlyingLemmas.{more-flying, less-flying, idle-not-flying}
 use Rattle.evict_core.proofs.TrimLemmas.{kept-by-trim, some-idle}
 use Rattle.evict_core.proofs.StateLemmas.{claim-has-room}
 use Rattle.evict_core.proofs.HistoryLemmas.{replay-append, by-steps}
@@ -19,29 +21,15 @@ raised-min : (n m : ℕ) → n ≡ min m last_count → raised n ≡ min (m + 1)
 raised-min n m is = subst (λ (z : ℕ). raised z ≡ min (m + 1) last_count) (sym is) (grind arith)
 
 module _ {V : Type 0} where
-  more-flying : (o : Option (Status V)) → weight_in flying_one (option_map one_pin_more o) ≡ weight_in flying_one o
-  more-flying None = refl
-  more-flying (Some (Flying n)) = refl
-  more-flying (Some (Ready pins cost value)) = refl
-
   more-ready : (o : Option (Status V)) → weight_in ready_one (option_map one_pin_more o) ≡ weight_in ready_one o
   more-ready None = refl
   more-ready (Some (Flying n)) = refl
   more-ready (Some (Ready pins cost value)) = refl
 
-  less-flying : (o : Option (Status V)) → weight_in flying_one (option_map one_pin_less o) ≡ weight_in flying_one o
-  less-flying None = refl
-  less-flying (Some (Flying n)) = refl
-  less-flying (Some (Ready pins cost value)) = refl
-
   less-ready : (o : Option (Status V)) → weight_in ready_one (option_map one_pin_less o) ≡ weight_in ready_one o
   less-ready None = refl
   less-ready (Some (Flying n)) = refl
   less-ready (Some (Ready pins cost value)) = refl
-
-  idle-not-flying : (st : Status V) → is_idle st ≡ true → flying_one st ≡ 0
-  idle-not-flying (Flying n) idle = absurd (true≢false (sym idle))
-  idle-not-flying (Ready pins cost value) idle = refl
 
   idle-is-ready : (st : Status V) → is_idle st ≡ true → ready_one st ≡ 1
   idle-is-ready (Flying n) idle = absurd (true≢false (sym idle))
@@ -197,6 +185,18 @@ module _ {K V : Type 0} (eq : K → K → Bool) where
     evictions_are = say.evictions_are;
   }
 
+  counts-hard : (s : State K V) (hard : Option HardLimit) (a b c d e : ℕ) → CountsSay s a b c d e → CountsSay (record s { hard = hard }) a b c d e
+  counts-hard s hard a b c d e say = record {
+    hits_are = say.hits_are;
+    claims_are = say.claims_are;
+    fills_are = say.fills_are;
+    fails_are = say.fails_are;
+    crowded_are = say.crowded_are;
+    claimed = say.claimed;
+    kept = say.kept;
+    evictions_are = say.evictions_are;
+  }
+
   counts-crowded : (s : State K V) (a b c d e : ℕ) → CountsSay s a b c d e → CountsSay (record s { counts = record s.counts { crowded = raised s.counts.crowded } }) a b c d (e + 1)
   counts-crowded s a b c d e say = record {
     hits_are = say.hits_are;
@@ -222,8 +222,10 @@ module _ {K V : Type 0} (eq : K → K → Bool) where
     counts-after s held m (PinAll ks) a b c d e enabled say = same-counts _ _ _ _ _ _ _ _ _ _ _ (omega arith) (omega arith) (omega arith) (omega arith) (omega arith) (counts-hit_all ks s a b c d e say)
     counts-after s held m (Fill k cost value) a b c d e enabled say = same-counts _ _ _ _ _ _ _ _ _ _ _ (omega arith) (omega arith) (omega arith) (omega arith) (omega arith) (counts-fill s k cost value m a b c d e enabled say)
     counts-after s held m (Fail k) a b c d e enabled say = same-counts _ _ _ _ _ _ _ _ _ _ _ (omega arith) (omega arith) (omega arith) (omega arith) (omega arith) (counts-fail s k m a b c d e enabled say)
+    counts-after s held m (Spill k cost) a b c d e enabled say = same-counts _ _ _ _ _ _ _ _ _ _ _ (omega arith) (omega arith) (omega arith) (omega arith) (omega arith) (counts-fail s k m a b c d e enabled.0 say)
     counts-after s held m (Unpin k) a b c d e enabled say = same-counts _ _ _ _ _ _ _ _ _ _ _ (omega arith) (omega arith) (omega arith) (omega arith) (omega arith) (counts-unpin s k a b c d e say)
     counts-after s held m (Limits entries budget) a b c d e enabled say = same-counts _ _ _ _ _ _ _ _ _ _ _ (omega arith) (omega arith) (omega arith) (omega arith) (omega arith) (counts-trim (record s { limit = entries; budget = budget }) a b c d e (counts-limits s entries budget a b c d e say))
+    counts-after s held m (Hard hard) a b c d e enabled say = same-counts _ _ _ _ _ _ _ _ _ _ _ (omega arith) (omega arith) (omega arith) (omega arith) (omega arith) (counts-hard s hard a b c d e say)
 
     tally-more : (pick : Counts → ℕ) (h : History (Step K V)) (x : ℕ × Step K V) → tally pick (h ++ x ∷ []) ≡ tally pick h + pick (counts_of x.1)
     tally-more pick h x = sum_by_push (λ (p : ℕ × Step K V). pick (counts_of p.1)) h x

@@ -3,7 +3,7 @@ use Rattle.std.proofs.Common.{◌≡◌, ℕ, Bool, true, false, not, ◌||◌, 
 use Rattle.std.specs.Cmp.{IsEquivalence}
 use Rattle.std.proofs.lemmas.Bool.{eq-eqb, and_from, not_from_false}
 use Rattle.turn_cell.specs.History.{History}
-use Rattle.evict_core.specs.Machine.{Ready, State, Hit, Claim, Crowded, Step, Ask, PinAll, Fill, Fail, Unpin, Limits, maker_in, status_of, state_after, IsEnabled}
+use Rattle.evict_core.specs.Machine.{Ready, State, Hit, Claim, Crowded, Step, Ask, PinAll, Fill, Fail, Spill, Unpin, Limits, Hard, maker_in, status_of, state_after, IsEnabled}
 use Rattle.evict_core.specs.History.{opening, replay, replay_from, pins_held, IsLegal, is_fail_of, is_open_after, is_evicted}
 use Rattle.evict_core.specs.Laws.{IsLostWithin, IsEvictedWithin, ClaimsOnce, FillsOnce}
 use Rattle.evict_core.proofs.RecencyLemmas.{cond-same, lookup-congr, lookup-remove-other, lookup-to_front}
@@ -23,11 +23,16 @@ module _ {K V : Type 0} (eq : K → K → Bool) (laws : IsEquivalence eq) where
     | true ↦ λ t. inl refl
     | false ↦ λ t. absurd (true≢false (sym here ∙ (ap is_some (sym (lookup-remove-other eq laws key k s.entries t)) ∙ gone)))
   ]) refl
+  loses s m (Spill key cost) k here gone = (elim (eq k key) as (λ b. eq k key ≡ b → (b ≡ true) ⊎ (is_evicted eq s (m, Spill key cost) k ≡ true)) [
+    | true ↦ λ t. inl refl
+    | false ↦ λ t. absurd (true≢false (sym here ∙ (ap is_some (sym (lookup-remove-other eq laws key k s.entries t)) ∙ gone)))
+  ]) refl
   loses s m (Ask key answer) k here gone = inr (and_from _ _ (and_from _ _ here (not_from_false _ gone)) refl)
   loses s m (PinAll keys) k here gone = inr (and_from _ _ (and_from _ _ here (not_from_false _ gone)) refl)
   loses s m (Fill key cost value) k here gone = inr (and_from _ _ (and_from _ _ here (not_from_false _ gone)) refl)
   loses s m (Unpin key) k here gone = inr (and_from _ _ (and_from _ _ here (not_from_false _ gone)) refl)
   loses s m (Limits entries budget) k here gone = inr (and_from _ _ (and_from _ _ here (not_from_false _ gone)) refl)
+  loses s m (Hard hard) k here gone = inr (and_from _ _ (and_from _ _ here (not_from_false _ gone)) refl)
 
   lost-within : (between : History (Step K V)) (s : State K V) (k : K) → is_some (status_of eq s k) ≡ true → is_some (status_of eq (replay_from eq s between) k) ≡ false → IsLostWithin eq s between k
   lost-within [] s k here gone = absurd (true≢false (sym here ∙ gone))
@@ -61,16 +66,20 @@ module _ {K V : Type 0} (eq : K → K → Bool) (laws : IsEquivalence eq) where
   opens-not s held m (PinAll keys) k enabled here = refl
   opens-not s held m (Fill key cost value) k enabled here = elim (eq k key) as (λ b. (not b && false) ≡ false) [ true ↦ refl | false ↦ refl ]
   opens-not s held m (Fail key) k enabled here = elim (eq k key) as (λ b. (not b && false) ≡ false) [ true ↦ refl | false ↦ refl ]
+  opens-not s held m (Spill key cost) k enabled here = elim (eq k key) as (λ b. (not b && false) ≡ false) [ true ↦ refl | false ↦ refl ]
   opens-not s held m (Unpin key) k enabled here = refl
   opens-not s held m (Limits entries budget) k enabled here = refl
+  opens-not s held m (Hard hard) k enabled here = refl
 
   fails-not : (s : State K V) (held : K → ℕ) (m : ℕ) (step : Step K V) (k : K) → IsEnabled eq s held m step → maker_in (status_of eq s k) ≡ None → is_fail_of eq step k ≡ true → ⊥
   fails-not s held m (Fail key) k enabled ready fails = let made = ap maker_in (lookup-congr eq laws k key fails s.entries) ∙ enabled in let wrong : None ≡ Some m = sym ready ∙ made in cc
+  fails-not s held m (Spill key cost) k enabled ready fails = let made = ap maker_in (lookup-congr eq laws k key fails s.entries) ∙ enabled.0 in let wrong : None ≡ Some m = sym ready ∙ made in cc
   fails-not s held m (Ask key answer) k enabled ready fails = true≢false (sym fails)
   fails-not s held m (PinAll keys) k enabled ready fails = true≢false (sym fails)
   fails-not s held m (Fill key cost value) k enabled ready fails = true≢false (sym fails)
   fails-not s held m (Unpin key) k enabled ready fails = true≢false (sym fails)
   fails-not s held m (Limits entries budget) k enabled ready fails = true≢false (sym fails)
+  fails-not s held m (Hard hard) k enabled ready fails = true≢false (sym fails)
 
   pub legal-front : (limit budget : ℕ) (g h : History (Step K V)) → IsLegal eq limit budget (g ++ h) → IsLegal eq limit budget g
   legal-front limit budget g h legal front back e is = legal front (back ++ h) e (ap (λ (l : History (Step K V)). l ++ h) is ∙ append_assoc front (e ∷ back) h)

@@ -3,7 +3,7 @@ use Rattle.std.proofs.Common.{◌≡◌, ℕ, Bool, true, false, cond, List, [],
 use Rattle.std.specs.Cmp.{IsEquivalence}
 use Rattle.turn_cell.specs.History.{History}
 use Rattle.evict_core.specs.Recency.{Apart, change}
-use Rattle.evict_core.specs.Machine.{Status, Flying, Ready, State, Hit, Claim, Crowded, Step, Ask, PinAll, Fill, Fail, Unpin, Limits, is_idle, one_pin_more, one_pin_less, evict, trim, status_of, hit, hit_all, room_for_one, put_first, state_after}
+use Rattle.evict_core.specs.Machine.{Status, Flying, Ready, State, Hit, Claim, Crowded, Step, Ask, PinAll, Fill, Fail, Spill, Unpin, Limits, Hard, is_idle, one_pin_more, one_pin_less, evict, trim, status_of, hit, hit_all, room_for_one, put_first, state_after}
 use Rattle.evict_core.specs.History.{opening, replay, pins_held, MayFollow, IsLegal}
 use Rattle.evict_core.specs.Laws.{IsFilled, NoneIsLegal, MoreIsLegal, ReadyWasFilled}
 use Rattle.evict_core.proofs.RecencyLemmas.{lookup-to_front, lookup-change, lookup-remove, lookup-without_last, Apart-without_last, Apart-change}
@@ -12,12 +12,12 @@ use Rattle.evict_core.proofs.StateLemmas.{IsSound, sound-hit, sound-after}
 use Rattle.evict_core.proofs.HistoryLemmas.{replay-append, by-steps, sound-replay}
 
 module _ {X : Type 0} where
-  no-end : (front back : List X) (e : X) → [] ≡ front ++ e ∷ back → ⊥
+  pub no-end : (front back : List X) (e : X) → [] ≡ front ++ e ∷ back → ⊥
   no-end [] back e q = cc
   no-end (f ∷ front) back e q = cc
 
   -- an element of a list with one more at its end is that one, or stands before it
-  last-or-before : (h front back : List X) (x e : X) → h ++ x ∷ [] ≡ front ++ e ∷ back → ((front ≡ h) × (e ≡ x)) ⊎ ((rest : List X) × (h ≡ front ++ e ∷ rest))
+  pub last-or-before : (h front back : List X) (x e : X) → h ++ x ∷ [] ≡ front ++ e ∷ back → ((front ≡ h) × (e ≡ x)) ⊎ ((rest : List X) × (h ≡ front ++ e ∷ rest))
   last-or-before [] [] back x e q = let same : x ≡ e = cc in inl (refl, sym same)
   last-or-before [] (f ∷ front) back x e q = let rest : [] ≡ front ++ e ∷ back = cc in absurd (no-end front back e rest)
   last-or-before (y ∷ h) [] back x e q = let same : y ≡ e = cc in inr (h, ap (λ z. z ∷ h) same)
@@ -102,6 +102,10 @@ module _ {K V : Type 0} (eq : K → K → Bool) (laws : IsEquivalence eq) (q : K
     | true ↦ λ is. cc
     | false ↦ λ is. inl is
   ]) (rw (lookup-remove eq laws k q s.entries sound.apart) at made)
+  made-after s m (Spill k cost) sound made = (elim (eq q k) as (λ b. made_in (cond b None (status_of eq s q)) ≡ Some (c, v) → IsMadeIn s ⊎ Fills (Spill k cost)) [
+    | true ↦ λ is. cc
+    | false ↦ λ is. inl is
+  ]) (rw (lookup-remove eq laws k q s.entries sound.apart) at made)
   made-after s m (Unpin k) sound made =
       let before = made-trim (record s { entries = change (eq k) one_pin_less s.entries }) (Apart-change eq laws k one_pin_less s.entries sound.apart) made in
       (elim (eq q k) as (λ b. made_in (cond b (option_map one_pin_less (status_of eq s q)) (status_of eq s q)) ≡ Some (c, v) → IsMadeIn s ⊎ Fills (Unpin k)) [
@@ -109,6 +113,7 @@ module _ {K V : Type 0} (eq : K → K → Bool) (laws : IsEquivalence eq) (q : K
         | false ↦ λ is. inl is
       ]) (rw (lookup-change eq laws k one_pin_less q s.entries) at before)
   made-after s m (Limits entries budget) sound made = inl (made-trim (record s { limit = entries; budget = budget }) sound.apart made)
+  made-after s m (Hard hard) sound made = inl made
 
   filled-more : (h : History (Step K V)) (e : ℕ × Step K V) → IsFilled eq h q c v → IsFilled eq (h ++ e ∷ []) q c v
   filled-more h e filled = record {

@@ -2,6 +2,8 @@ pub mod AskLemmas
 pub mod CountLemmas
 pub mod EvictLemmas
 pub mod FillLaws
+pub mod FlyingLemmas
+pub mod HardLemmas
 pub mod HistoryLemmas
 pub mod InsertLemmas
 pub mod LegalLemmas

@@ -1,9 +1,9 @@
 -- Several hits in a row, by the places of their keys.
-use Rattle.std.proofs.Common.{◌≡◌, ℕ, ◌+◌, ◌<◌, Bool, true, false, cond, ◌||◌, nat_lt, List, [], ◌∷◌, ◌++◌, length, Option, Some, None, option_map, refl, ap, ◌∙◌, subst, arith}
+use Rattle.std.proofs.Common.{◌≡◌, ℕ, ◌+◌, ◌<◌, Bool, true, false, cond, nat_lt, List, [], ◌∷◌, ◌++◌, Option, Some, None, option_map, refl, ap, ◌∙◌, subst, arith}
 use Rattle.std.specs.Cmp.{IsEquivalence}
 use Rattle.std.proofs.lemmas.Bool.{ltb-true}
 use Rattle.evict_core.specs.Recency.{Apart}
-use Rattle.evict_core.specs.Machine.{Status, Flying, Ready, State, Hit, Claim, Crowded, max_pins, has_idle, one_pin_more, status_of, ask_answer, answer_at, hit, hit_all, HitsEach}
+use Rattle.evict_core.specs.Machine.{Status, Flying, Ready, State, Hit, Claim, Crowded, max_pins, has_room, one_pin_more, status_of, ask_answer, answer_at, hit, hit_all, HitsEach}
 use Rattle.evict_core.specs.Asked.{ready_pins}
 use Rattle.evict_core.specs.History.{one_if, times_named}
 use Rattle.evict_core.specs.Laws.{ArePinnable, EachIsPinnable, PinsAfterAll, OneHitMore}
@@ -34,7 +34,7 @@ module _ {K V : Type 0} (eq : K → K → Bool) (laws : IsEquivalence eq) where
       by (Some (Ready pins cost value)) found is = let same : pins ≡ p = cc in hit-ready eq s k pins cost value found (omega (arith, same, few))
 
   hit-means : (s : State K V) (o : Option (Status V)) → answer_at s o ≡ Some Hit → (p : ℕ) × (ready_pins o ≡ Some p) × (p < max_pins)
-  hit-means s None h = absurd ((elim (nat_lt (length s.entries) s.limit || has_idle s.entries) as (λ b. Some (cond b Claim Crowded) ≡ Some Hit → ⊥) [ true ↦ λ h. cc | false ↦ λ h. cc ]) h)
+  hit-means s None h = absurd ((elim (has_room s) as (λ b. Some (cond b Claim Crowded) ≡ Some Hit → ⊥) [ true ↦ λ h. cc | false ↦ λ h. cc ]) h)
   hit-means s (Some (Flying n)) h = cc
   hit-means s (Some (Ready pins cost value)) h = (
     pins,

@@ -5,7 +5,7 @@ use Rattle.std.proofs.lemmas.Bool.{eqb-true, eq-eqb, and_parts, cases_eq}
 use Rattle.std.proofs.lemmas.List.Elements.{All-nil, All-cons}
 use Rattle.turn_cell.specs.History.{History, IsBelow, entries_of}
 use Rattle.turn_cell.proofs.Histories.{IsPrefix-append, IsBelow_prefix, All_last}
-use Rattle.evict_core.specs.Machine.{State, Hit, Claim, Crowded, Step, Ask, PinAll, Fill, Fail, Unpin, Limits, pins_in, maker_in, status_of, state_after}
+use Rattle.evict_core.specs.Machine.{State, Hit, Claim, Crowded, Step, Ask, PinAll, Fill, Fail, Spill, Unpin, Limits, Hard, pins_in, maker_in, status_of, state_after}
 use Rattle.evict_core.specs.History.{opening, replay, one_if, times_named, pins_taken, pins_given, takes, gives, pins_held, held_below, MayFollow, IsLegal, is_open_after, is_pending}
 use Rattle.evict_core.specs.Laws.{FliesWherePending, PinsAreHeld, HeldArePins, GivenWereTaken, HeldIsKept}
 use Rattle.evict_core.proofs.StateLemmas.{IsSound, sound-after}
@@ -33,8 +33,10 @@ module _ {K V : Type 0} (eq : K → K → Bool) (laws : IsEquivalence eq) where
   takes-congr a b same (PinAll ks) = places-congr eq laws a b same ks
   takes-congr a b same (Fill k cost value) = ap one_if (laws.congr a b k same)
   takes-congr a b same (Fail k) = refl
+  takes-congr a b same (Spill k cost) = refl
   takes-congr a b same (Unpin k) = refl
   takes-congr a b same (Limits entries budget) = refl
+  takes-congr a b same (Hard hard) = refl
 
   gives-congr : (a b : K) → eq a b ≡ true → (step : Step K V) → gives eq a step ≡ gives eq b step
   gives-congr a b same (Unpin k) = ap one_if (laws.congr a b k same)
@@ -42,7 +44,9 @@ module _ {K V : Type 0} (eq : K → K → Bool) (laws : IsEquivalence eq) where
   gives-congr a b same (PinAll ks) = refl
   gives-congr a b same (Fill k cost value) = refl
   gives-congr a b same (Fail k) = refl
+  gives-congr a b same (Spill k cost) = refl
   gives-congr a b same (Limits entries budget) = refl
+  gives-congr a b same (Hard hard) = refl
 
   held-congr : (a b : K) → eq a b ≡ true → (steps : List (Step K V)) → (pins_taken eq steps a ≡ pins_taken eq steps b) × (pins_given eq steps a ≡ pins_given eq steps b)
   held-congr a b same [] = (refl, refl)
@@ -59,7 +63,9 @@ module _ {K V : Type 0} (eq : K → K → Bool) (laws : IsEquivalence eq) where
   gives-held s h m (PinAll ks) limit budget follows q = omega arith
   gives-held s h m (Fill k cost value) limit budget follows q = omega arith
   gives-held s h m (Fail k) limit budget follows q = omega arith
+  gives-held s h m (Spill k cost) limit budget follows q = omega arith
   gives-held s h m (Limits entries budget') limit budget follows q = omega arith
+  gives-held s h m (Hard hard) limit budget follows q = omega arith
 
   module _ (h : History (Step K V)) (e : ℕ × Step K V) (q : K) where
     held-other : (m : ℕ) → (e.0 ≡ m → ⊥) → pins_held eq (h ++ e ∷ []) m q ≡ pins_held eq h m q

@@ -3,7 +3,7 @@ use Rattle.std.proofs.Common.{◌≡◌, ℕ, ◌+◌, ◌-◌, ◌≤◌, Bool,
 use Rattle.std.specs.Cmp.{IsEquivalence}
 use Rattle.std.proofs.lemmas.Bool.{eqb-true}
 use Rattle.evict_core.specs.Recency.{Apart, change}
-use Rattle.evict_core.specs.Machine.{Status, Flying, Ready, State, Hit, Claim, Crowded, Step, Ask, PinAll, Fill, Fail, Unpin, Limits, is_idle, one_pin_more, one_pin_less, pins_in, maker_in, evict, trim, status_of, ask_answer, answer_at, hit, hit_all, room_for_one, put_first, state_after, HitsEach, IsEnabled}
+use Rattle.evict_core.specs.Machine.{Status, Flying, Ready, State, Hit, Claim, Crowded, Step, Ask, PinAll, Fill, Fail, Spill, Unpin, Limits, Hard, is_idle, one_pin_more, one_pin_less, pins_in, maker_in, evict, trim, has_room, status_of, ask_answer, answer_at, hit, hit_all, room_for_one, put_first, state_after, HitsEach, IsEnabled}
 use Rattle.evict_core.specs.History.{one_if, times_named, takes, gives, is_open_after}
 use Rattle.evict_core.proofs.RecencyLemmas.{cond-same, lookup-congr, lookup-to_front, lookup-change, lookup-remove, lookup-without_last, Apart-without_last, Apart-change}
 use Rattle.evict_core.proofs.TrimLemmas.{kept-by-trim}
@@ -56,7 +56,7 @@ module _ {V : Type 0} where
 
 module _ {K V : Type 0} (eq : K → K → Bool) (laws : IsEquivalence eq) where
   hit-adds : (s : State K V) (o : Option (Status V)) → answer_at s o ≡ Some Hit → pins_in (option_map one_pin_more o) ≡ pins_in o + 1
-  hit-adds s None h = absurd ((elim (nat_lt (length s.entries) s.limit || _) as (λ b. Some (cond b Claim Crowded) ≡ Some Hit → ⊥) [ true ↦ λ h. cc | false ↦ λ h. cc ]) h)
+  hit-adds s None h = absurd ((elim (has_room s) as (λ b. Some (cond b Claim Crowded) ≡ Some Hit → ⊥) [ true ↦ λ h. cc | false ↦ λ h. cc ]) h)
   hit-adds s (Some (Flying n)) h = cc
   hit-adds s (Some (Ready pins cost value)) h = refl
 
@@ -129,8 +129,14 @@ module _ {K V : Type 0} (eq : K → K → Bool) (laws : IsEquivalence eq) where
         | true ↦ λ t. omega (arith, flying-pins (status_of eq s q) m (ap maker_in (lookup-congr eq laws q k t s.entries) ∙ enabled))
         | false ↦ λ t. refl
       ]) refl)
+  pins-after s held m (Spill k cost) sound enabled some q = rw (lookup-remove eq laws k q s.entries sound.apart)
+      ((elim (eq q k) as (λ b. eq q k ≡ b → pins_in (cond b None (status_of eq s q)) + 0 ≡ pins_in (status_of eq s q) + 0) [
+        | true ↦ λ t. omega (arith, flying-pins (status_of eq s q) m (ap maker_in (lookup-congr eq laws q k t s.entries) ∙ enabled.0))
+        | false ↦ λ t. refl
+      ]) refl)
   pins-after s held m (Unpin k) sound enabled some q = pins-unpin s k q sound.apart (omega (arith, some k, enabled))
   pins-after s held m (Limits entries budget) sound enabled some q = ap (λ (n : ℕ). n + 0) (pins-trim (record s { limit = entries; budget = budget }) q sound.apart)
+  pins-after s held m (Hard hard) sound enabled some q = refl
 
   maker-hit : (s : State K V) (k q : K) → Apart eq s.entries → maker_in (status_of eq (hit eq s k) q) ≡ maker_in (status_of eq s q)
   maker-hit s k q apart = rw (lookup-to_front eq laws k one_pin_more q s.entries apart) (elim (eq q k) as (λ b. maker_in (cond b (option_map one_pin_more (status_of eq s q)) (status_of eq s q)) ≡ maker_in (status_of eq s q)) [
@@ -176,5 +182,11 @@ module _ {K V : Type 0} (eq : K → K → Bool) (laws : IsEquivalence eq) where
         | true ↦ λ t. ends (status_of eq s q) m n (ap maker_in (lookup-congr eq laws q k t s.entries) ∙ enabled)
         | false ↦ λ t. sym (cond-same (m == n) _)
       ]) refl)
+  makes-after s held m (Spill k cost) sound enabled q n = rw (lookup-remove eq laws k q s.entries sound.apart)
+      ((elim (eq q k) as (λ b. eq q k ≡ b → makes n (maker_in (cond b None (status_of eq s q))) ≡ cond (m == n) (not b && makes n (maker_in (status_of eq s q))) (makes n (maker_in (status_of eq s q)))) [
+        | true ↦ λ t. ends (status_of eq s q) m n (ap maker_in (lookup-congr eq laws q k t s.entries) ∙ enabled.0)
+        | false ↦ λ t. sym (cond-same (m == n) _)
+      ]) refl)
   makes-after s held m (Unpin k) sound enabled q n = ap (makes n) (maker-unpin s k q sound.apart) ∙ sym (cond-same (m == n) _)
   makes-after s held m (Limits entries budget) sound enabled q n = ap (makes n) (maker-trim (record s { limit = entries; budget = budget }) q sound.apart) ∙ sym (cond-same (m == n) _)
+  makes-after s held m (Hard hard) sound enabled q n = sym (cond-same (m == n) _)

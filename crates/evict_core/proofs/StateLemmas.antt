@@ -5,7 +5,7 @@ use Rattle.std.specs.Map.{lookup_entry, remove_entry}
 use Rattle.std.specs.Option.{option_map_or}
 use Rattle.std.proofs.lemmas.Bool.{or_parts, or_cases, and_parts, not-true, leb-true, ltb-true, or_from}
 use Rattle.evict_core.specs.Recency.{Apart, without_last, to_front, change}
-use Rattle.evict_core.specs.Machine.{max_pins, Status, Flying, Ready, State, Hit, Claim, Crowded, Step, Ask, PinAll, Fill, Fail, Unpin, Limits, is_idle, idle_cost, one_pin_more, one_pin_less, has_idle, unpinned, evict, trim, status_of, ask_answer, answer_at, hit, hit_all, room_for_one, put_first, state_after, IsEnabled}
+use Rattle.evict_core.specs.Machine.{max_pins, Status, Flying, Ready, State, Hit, Claim, Crowded, Step, Ask, PinAll, Fill, Fail, Spill, Unpin, Limits, Hard, is_idle, idle_cost, one_pin_more, one_pin_less, has_idle, has_space, has_room, unpinned, evict, trim, status_of, ask_answer, answer_at, hit, hit_all, room_for_one, put_first, state_after, IsEnabled}
 use Rattle.evict_core.proofs.RecencyLemmas.{Apart-remove, Apart-change, Apart-to_front, Apart-without_last, length-without_last, lookup-without_last}
 use Rattle.evict_core.proofs.TrimLemmas.{kept-by-trim, is_within-trim}
 
@@ -115,17 +115,17 @@ module _ {K V : Type 0} (eq : K → K → Bool) (laws : IsEquivalence eq) where
       ]
 
   -- a claim is answered where the list is shorter than its limit, or an entry may be evicted
-  pub claim-has-room : (s : State K V) (k : K) → ask_answer eq s k ≡ Some Claim → (status_of eq s k ≡ None) × ((nat_lt (length s.entries) s.limit || has_idle s.entries) ≡ true)
+  pub claim-has-room : (s : State K V) (k : K) → ask_answer eq s k ≡ Some Claim → (status_of eq s k ≡ None) × ((nat_lt (length s.entries) s.limit || has_idle s.entries) ≡ true) × (has_space s ≡ true)
   claim-has-room s k claims = by (status_of eq s k) refl claims
     where
-      by : (r : Option (Status V)) → status_of eq s k ≡ r → answer_at s r ≡ Some Claim → (status_of eq s k ≡ None) × ((nat_lt (length s.entries) s.limit || has_idle s.entries) ≡ true)
-      by None is claims = (
-        is,
-        (elim (nat_lt (length s.entries) s.limit || has_idle s.entries) as (λ b. Some (cond b Claim Crowded) ≡ Some Claim → b ≡ true) [
-          | true ↦ λ _. refl
-          | false ↦ λ h. cc
-        ]) claims,
-      )
+      by : (r : Option (Status V)) → status_of eq s k ≡ r → answer_at s r ≡ Some Claim → (status_of eq s k ≡ None) × ((nat_lt (length s.entries) s.limit || has_idle s.entries) ≡ true) × (has_space s ≡ true)
+      by None is claims =
+          let room : has_room s ≡ true = (elim (has_room s) as (λ b. Some (cond b Claim Crowded) ≡ Some Claim → b ≡ true) [
+            | true ↦ λ _. refl
+            | false ↦ λ h. cc
+          ]) claims in
+          let parts = and_parts (nat_lt (length s.entries) s.limit || has_idle s.entries) (has_space s) room in
+          (is, parts.0, parts.1)
       by (Some (Flying n)) is claims = cc
       by (Some (Ready pins cost value)) is claims = absurd ((elim (nat_lt pins max_pins) as (λ b. Some (cond b Hit Crowded) ≡ Some Claim → ⊥) [
         | true ↦ λ h. cc
@@ -159,5 +159,11 @@ module _ {K V : Type 0} (eq : K → K → Bool) (laws : IsEquivalence eq) where
     in_budget = omega (arith, unpinned-remove (eq k) s.entries, sound.in_budget);
     in_limit = λ over. idle-remove (eq k) s.entries (sound.in_limit (omega (arith, over, length-remove (eq k) s.entries)));
   }
+  sound-after s held m (Spill k cost) sound enabled = record {
+    apart = Apart-remove eq laws k s.entries sound.apart;
+    in_budget = omega (arith, unpinned-remove (eq k) s.entries, sound.in_budget);
+    in_limit = λ over. idle-remove (eq k) s.entries (sound.in_limit (omega (arith, over, length-remove (eq k) s.entries)));
+  }
   sound-after s held m (Unpin k) sound enabled = sound-trim (record s { entries = change (eq k) one_pin_less s.entries }) (Apart-change eq laws k one_pin_less s.entries sound.apart)
   sound-after s held m (Limits entries budget) sound enabled = sound-trim (record s { limit = entries; budget = budget }) sound.apart
+  sound-after s held m (Hard hard) sound enabled = record { apart = sound.apart; in_budget = sound.in_budget; in_limit = sound.in_limit }

@@ -1,8 +1,9 @@
 -- Public: how the states of the machine are told apart as data.
-use Rattle.std.specs.Prelude.{◌≡◌, ℕ, ◌⊎◌, List, refl}
+use Rattle.std.specs.Prelude.{◌≡◌, ℕ, ◌⊎◌, List, Option, refl}
 use Rattle.std.proofs.Common.{inl, inr}
-use Rattle.std.specs.Coded.{Coded, code_by, coded_ℕ, coded_list, coded×, coded⊎}
+use Rattle.std.specs.Coded.{Coded, code_by, coded_ℕ, coded_list, coded×, coded⊎, coded_option}
 use Rattle.evict_core.specs.Machine.{State, Status, Flying, Ready}
+use Rattle.evict_core.specs.declared.hard_limit.HardLimit.{HardLimit}
 
 module _ {V : Type 0} where
   abbrev pub status_parts : Status V → ℕ ⊎ (ℕ × (ℕ × V))
@@ -24,15 +25,20 @@ module _ {V : Type 0} where
 abbrev pub two : Coded (ℕ × ℕ)
 two = coded× coded_ℕ coded_ℕ
 
-module _ {K V : Type 0} where
-  abbrev pub state_parts : State K V → List (K × Status V) × ((ℕ × ℕ) × ((ℕ × ℕ) × ((ℕ × ℕ) × (ℕ × ℕ))))
-  state_parts s = (s.entries, ((s.limit, s.budget), ((s.counts.hits, s.counts.claims), ((s.counts.fills, s.counts.fails), (s.counts.crowded, s.counts.evictions)))))
+-- a hard limit is stored as its two costs
+abbrev pub hard_code : Coded HardLimit
+hard_code = code_by (ℕ × ℕ) two (λ h. (h.cost, h.making)) (λ p. record { cost = p.0; making = p.1 }) (λ _. refl)
 
-  abbrev pub state_from : List (K × Status V) × ((ℕ × ℕ) × ((ℕ × ℕ) × ((ℕ × ℕ) × (ℕ × ℕ)))) → State K V
+module _ {K V : Type 0} where
+  abbrev pub state_parts : State K V → List (K × Status V) × (((ℕ × ℕ) × Option HardLimit) × ((ℕ × ℕ) × ((ℕ × ℕ) × (ℕ × ℕ))))
+  state_parts s = (s.entries, (((s.limit, s.budget), s.hard), ((s.counts.hits, s.counts.claims), ((s.counts.fills, s.counts.fails), (s.counts.crowded, s.counts.evictions)))))
+
+  abbrev pub state_from : List (K × Status V) × (((ℕ × ℕ) × Option HardLimit) × ((ℕ × ℕ) × ((ℕ × ℕ) × (ℕ × ℕ)))) → State K V
   state_from p = record {
     entries = p.0;
-    limit = p.1.0.0;
-    budget = p.1.0.1;
+    limit = p.1.0.0.0;
+    budget = p.1.0.0.1;
+    hard = p.1.0.1;
     counts = record {
       hits = p.1.1.0.0;
       claims = p.1.1.0.1;
@@ -45,4 +51,4 @@ module _ {K V : Type 0} where
 
   -- a state is stored as the tuple of its fields
   abbrev pub state_code : Coded K → Coded V → Coded (State K V)
-  state_code k v = code_by (List (K × Status V) × ((ℕ × ℕ) × ((ℕ × ℕ) × ((ℕ × ℕ) × (ℕ × ℕ))))) (coded× (coded_list (coded× k (status_code v))) (coded× two (coded× two (coded× two two)))) state_parts state_from (λ _. refl)
+  state_code k v = code_by (List (K × Status V) × (((ℕ × ℕ) × Option HardLimit) × ((ℕ × ℕ) × ((ℕ × ℕ) × (ℕ × ℕ))))) (coded× (coded_list (coded× k (status_code v))) (coded× (coded× two (coded_option hard_code)) (coded× two (coded× two two)))) state_parts state_from (λ _. refl)

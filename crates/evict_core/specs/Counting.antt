@@ -3,27 +3,20 @@ use Rattle.std.specs.Prelude.{◌≡◌, ℕ, ◌+◌, ◌-◌, ◌≤◌, min, 
 use Rattle.turn_cell.specs.History.{History}
 use Rattle.evict_core.specs.declared.counts.Counts.{Counts}
 use Rattle.evict_core.specs.Recency.{total}
-use Rattle.evict_core.specs.Machine.{Status, Flying, Ready, State, Hit, Claim, Crowded, Step, Ask, PinAll, Fill, Fail, Unpin, Limits, last_count}
+use Rattle.evict_core.specs.Machine.{Status, Flying, Ready, State, Hit, Claim, Crowded, Step, Ask, PinAll, Fill, Fail, Spill, Unpin, Limits, Hard, flying, last_count}
 use Rattle.evict_core.specs.History.{no_counts}
 
 module _ {V : Type 0} where
-  abbrev pub flying_one : Status V → ℕ
-  flying_one (Flying number) = 1
-  flying_one (Ready pins cost value) = 0
-
   abbrev pub ready_one : Status V → ℕ
   ready_one (Flying number) = 0
   ready_one (Ready pins cost value) = 1
 
 module _ {K V : Type 0} where
-  -- how many entries are being made, and how many are ready
-  abbrev pub flying : List (K × Status V) → ℕ
-  flying es = total flying_one es
-
+  -- how many entries are ready
   abbrev pub ready : List (K × Status V) → ℕ
   ready es = total ready_one es
 
-  -- what a step counts, but for evictions. A pin-all is a hit for each of its places
+  -- what a step counts, but for evictions. A pin-all is a hit for each of its places, and a spill a fail
   abbrev pub counts_of : Step K V → Counts
   counts_of (Ask key Hit) = record no_counts { hits = 1 }
   counts_of (Ask key Claim) = record no_counts { claims = 1 }
@@ -31,8 +24,10 @@ module _ {K V : Type 0} where
   counts_of (PinAll keys) = record no_counts { hits = length keys }
   counts_of (Fill key cost value) = record no_counts { fills = 1 }
   counts_of (Fail key) = record no_counts { fails = 1 }
+  counts_of (Spill key cost) = record no_counts { fails = 1 }
   counts_of (Unpin key) = no_counts
   counts_of (Limits entries budget) = no_counts
+  counts_of (Hard hard) = no_counts
 
   -- one of these of all steps of the history together
   abbrev pub tally : (Counts → ℕ) → History (Step K V) → ℕ

@@ -1,10 +1,11 @@
 -- Public: what holds of every legal history of a cache.
-use Rattle.std.specs.Prelude.{◌≡◌, ℕ, ◌+◌, ◌<◌, ◌≤◌, Bool, true, false, ◌⊎◌, ◌↔◌, List, [], ◌∷◌, ◌++◌, length, Some}
+use Rattle.std.specs.Prelude.{◌≡◌, ℕ, ◌+◌, ◌*◌, ◌<◌, ◌≤◌, Bool, true, false, ◌⊎◌, ◌↔◌, List, [], ◌∷◌, ◌++◌, length, Some}
 use Rattle.turn_cell.specs.History.{History, IsBelow, entries_of}
-use Rattle.evict_core.specs.Machine.{State, Ready, Hit, Claim, Step, Ask, Fill, max_pins, maker_in, pins_in, unpinned, has_idle, status_of, ask_answer, hit, hit_all, HitsEach, is_within, evict_all, trim}
-use Rattle.evict_core.specs.History.{replay, replay_from, times_named, pins_taken, pins_given, pins_held, held_below, is_pending, MayFollow, IsLegal, is_evicted, is_fail_of}
+use Rattle.evict_core.specs.Machine.{State, Ready, Hit, Claim, Step, Ask, Fill, max_pins, maker_in, pins_in, unpinned, pinned, flying, has_idle, status_of, ask_answer, hit, hit_all, HitsEach, is_within, evict_all, trim}
+use Rattle.evict_core.specs.History.{replay, replay_from, times_named, pins_taken, pins_given, pins_held, held_below, is_pending, MayFollow, IsLegal, IsFit, FillsFit, is_evicted, is_fail_of}
 use Rattle.evict_core.specs.Asked.{ready_pins}
 use Rattle.evict_core.specs.Counting.{tally, CountsSay}
+use Rattle.evict_core.specs.declared.hard_limit.HardLimit.{HardLimit}
 
 module _ {K V : Type 0} (eq : K → K → Bool) where
   -- within `between`, which follows the state s, some entry is a fail of k, or evicts it
@@ -73,6 +74,20 @@ module _ {K : Type 0} (V : Type 0) (eq : K → K → Bool) where
   StaysInLimit = (limit budget : ℕ) (h : History (Step K V)) → IsLegal eq limit budget h
       → (replay eq limit budget h).limit < length (replay eq limit budget h).entries
       → has_idle (replay eq limit budget h).entries ≡ false
+
+  -- where a hard limit is set and each fill found room within it, no pinned, unpinned and unmade values pass it together
+  abbrev pub StaysInHardLimit : Type 0
+  StaysInHardLimit = (limit budget : ℕ) (h : History (Step K V)) → IsLegal eq limit budget h → FillsFit eq limit budget h
+      → (hard : HardLimit) → (replay eq limit budget h).hard ≡ Some hard
+      → unpinned (replay eq limit budget h).entries + pinned (replay eq limit budget h).entries + hard.making * flying (replay eq limit budget h).entries ≤ hard.cost
+
+  -- the fills of a history fit where those of its beginning do and its last step does
+  abbrev pub NoneFits : Type 0
+  NoneFits = (limit budget : ℕ) → FillsFit {V = V} eq limit budget []
+
+  abbrev pub MoreFits : Type 0
+  MoreFits = (limit budget : ℕ) (h : History (Step K V)) (e : ℕ × Step K V) → FillsFit eq limit budget h → IsFit (replay eq limit budget h) e.1
+      → FillsFit eq limit budget (h ++ e ∷ [])
 
   -- m makes k exactly where m's claim of it is pending
   abbrev pub FliesWherePending : Type 0

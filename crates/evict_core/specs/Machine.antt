@@ -1,20 +1,22 @@
 -- Public: the cache machine, what a cache with a limit of entries and a budget does at each step. It is this project's own.
 -- `eq` says which keys are the same, and a ready entry also has the value that it was filled with.
-use Rattle.std.specs.Prelude.{◌≡◌, ℕ, zero, suc, ◌+◌, ◌-◌, ◌≤◌, min, Bool, false, not, ◌&&◌, ◌||◌, ◌==◌, nat_lt, nat_le, if◌then◌else◌, List, [], ◌∷◌, length, Option, Some, None}
+use Rattle.std.specs.Prelude.{◌≡◌, ℕ, zero, suc, ◌+◌, ◌-◌, ◌*◌, ◌≤◌, min, Bool, true, false, not, ◌&&◌, ◌||◌, ◌==◌, nat_lt, nat_le, if◌then◌else◌, List, [], ◌∷◌, length, Option, Some, None}
 use Rattle.std.specs.Map.{lookup, remove_entry}
 use Rattle.evict_core.specs.Recency.{total, some_passes, without_last, to_front, change}
 use Rattle.evict_core.specs.declared.counts.Counts.{Counts}
+use Rattle.evict_core.specs.declared.hard_limit.HardLimit.{HardLimit}
 
 -- an entry is being made by a number, or it is ready: so many pins hold it, and it costs so much
 pub data Status (V : Type 0) : Type 0 where
   Flying : (number : ℕ) → Status V
   Ready : (pins : ℕ) → (cost : ℕ) → (value : V) → Status V
 
--- the entries, the most recently used first, how many there are to be, what those that no pin holds may cost, and what was counted
+-- the entries, the most recently used first, how many there are to be, what those that no pin holds may cost, the hard limit of all together where one is set, and what was counted
 pub record State (K V : Type 0) : Type 0 where
   pub entries : List (K × Status V)
   pub limit : ℕ
   pub budget : ℕ
+  pub hard : Option HardLimit
   pub counts : Counts
 
 -- what an ask of a key that isn't being made is answered
@@ -23,13 +25,16 @@ pub data Answer : Type 0 where
   Claim : Answer
   Crowded : Answer
 
+-- a spill fails a key whose value was made but that the hard limit has no room for
 pub data Step (K V : Type 0) : Type 0 where
   Ask : (key : K) → (answer : Answer) → Step K V
   PinAll : (keys : List K) → Step K V
   Fill : (key : K) → (cost : ℕ) → (value : V) → Step K V
   Fail : (key : K) → Step K V
+  Spill : (key : K) → (cost : ℕ) → Step K V
   Unpin : (key : K) → Step K V
   Limits : (entries : ℕ) → (budget : ℕ) → Step K V
+  Hard : (hard : Option HardLimit) → Step K V
 
 -- the most pins that an entry has
 abbrev pub max_pins : ℕ
@@ -46,6 +51,16 @@ max_budget = 1099511627776
 -- the most that an entry costs
 abbrev pub max_cost : ℕ
 max_cost = 4294967296
+
+-- a hard limit, where there is one, has costs that an entry and a budget may have
+abbrev pub IsHardLimit : Option HardLimit → Type 0
+IsHardLimit None = Unit {0}
+IsHardLimit (Some hard) = (hard.cost ≤ max_budget) × (hard.making ≤ max_cost)
+
+-- it holds what costs so much, and so many that are being made
+abbrev pub is_held : Option HardLimit → ℕ → ℕ → Bool
+is_held None cost makings = true
+is_held (Some hard) cost makings = nat_le (cost + hard.making * makings) hard.cost
 
 -- the last value of a count, at which it stands
 abbrev pub last_count : ℕ
@@ -69,6 +84,11 @@ module _ {V : Type 0} where
   abbrev pub held_cost : Status V → ℕ
   held_cost (Flying number) = 0
   held_cost (Ready pins cost value) = if pins == 0 then 0 else cost
+
+  -- one that is being made
+  abbrev pub flying_one : Status V → ℕ
+  flying_one (Flying number) = 1
+  flying_one (Ready pins cost value) = 0
 
   abbrev pub one_pin_more : Status V → Status V
   one_pin_more (Flying number) = Flying number
@@ -102,6 +122,26 @@ module _ {K V : Type 0} where
   abbrev pub pinned : List (K × Status V) → ℕ
   pinned es = total held_cost es
 
+  -- how many entries are being made
+  abbrev pub flying : List (K × Status V) → ℕ
+  flying es = total flying_one es
+
+  -- the hard limit holds all entries
+  abbrev pub holds_all : Option HardLimit → List (K × Status V) → Bool
+  holds_all hard es = is_held hard (unpinned es + pinned es) (flying es)
+
+  -- it holds them and one more that is being made
+  abbrev pub has_space : State K V → Bool
+  has_space s = is_held s.hard (unpinned s.entries + pinned s.entries) (flying s.entries + 1)
+
+  -- it holds them where one that is being made is ready instead, at this cost
+  abbrev pub can_fill : State K V → ℕ → Bool
+  can_fill s cost = is_held s.hard (unpinned s.entries + pinned s.entries + cost) (flying s.entries - 1)
+
+  -- a key more may be there: the list is shorter than the limit or has one to evict, and the hard limit has space for a making
+  abbrev pub has_room : State K V → Bool
+  has_room s = (nat_lt (length s.entries) s.limit || has_idle s.entries) && has_space s
+
   abbrev pub evict : State K V → State K V
   evict s = record s { entries = without_last is_idle s.entries; counts = record s.counts { evictions = raised s.counts.evictions } }
 
@@ -126,7 +166,7 @@ module _ {K V : Type 0} where
 
   -- what an ask is answered; of a key that is being made it is no step
   abbrev pub answer_at : State K V → Option (Status V) → Option Answer
-  answer_at s None = Some (if nat_lt (length s.entries) s.limit || has_idle s.entries then Claim else Crowded)
+  answer_at s None = Some (if has_room s then Claim else Crowded)
   answer_at s (Some (Flying number)) = None
   answer_at s (Some (Ready pins cost value)) = Some (if nat_lt pins max_pins then Hit else Crowded)
 
@@ -159,8 +199,10 @@ module _ {K V : Type 0} (eq : K → K → Bool) where
   state_after s m (PinAll ks) = hit_all s ks
   state_after s m (Fill k cost value) = record s { entries = to_front (eq k) (λ _. Ready 1 cost value) s.entries; counts = record s.counts { fills = raised s.counts.fills } }
   state_after s m (Fail k) = record s { entries = remove_entry (eq k) s.entries; counts = record s.counts { fails = raised s.counts.fails } }
+  state_after s m (Spill k cost) = record s { entries = remove_entry (eq k) s.entries; counts = record s.counts { fails = raised s.counts.fails } }
   state_after s m (Unpin k) = trim (record s { entries = change (eq k) one_pin_less s.entries })
   state_after s m (Limits entries budget) = trim (record s { limit = entries; budget = budget })
+  state_after s m (Hard hard) = record s { hard = hard }
 
   -- each key in turn would be a hit
   abbrev pub HitsEach : State K V → List K → Type 0
@@ -173,5 +215,7 @@ module _ {K V : Type 0} (eq : K → K → Bool) where
   IsEnabled s held m (PinAll ks) = HitsEach s ks
   IsEnabled s held m (Fill k cost value) = maker_in (status_of s k) ≡ Some m
   IsEnabled s held m (Fail k) = maker_in (status_of s k) ≡ Some m
+  IsEnabled s held m (Spill k cost) = (maker_in (status_of s k) ≡ Some m) × (can_fill s cost ≡ false)
   IsEnabled s held m (Unpin k) = 1 ≤ held k
   IsEnabled s held m (Limits entries budget) = (1 ≤ entries) × (entries ≤ max_entries) × (budget ≤ max_budget)
+  IsEnabled s held m (Hard hard) = IsHardLimit hard × (holds_all hard s.entries ≡ true)

@@ -21,6 +21,10 @@ module _ {V : Type 0} where
   IsBusyAt None = Unit {0}
   IsBusyAt (Some st) = is_idle st ≡ false
 
+-- the most that the entries cost together, one beyond the largest limit among them
+abbrev pub max_sum : ℕ
+max_sum = 281479271677952
+
 -- the sums of the entries, none of which costs more than the most
 pub record AreSums {K V : Type 0} (es : List (K × Status V)) (idle_sum held_sum idle_count : ℕ) : Type 0 where
   pub unpinned_is : idle_sum ≡ unpinned es

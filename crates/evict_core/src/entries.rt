@@ -1,7 +1,8 @@
 //! The entries of a cache.
-ghost use Rattle.std.specs.Prelude.{◌≡◌, ℕ, ◌+◌, ◌<◌, ◌≤◌, true, false, ◌||◌, Some, None, length, nat_lt, IfOk, OnOk, OnErr, IsSome, option_map};
+ghost use Rattle.std.specs.Prelude.{◌≡◌, ℕ, ◌+◌, ◌<◌, ◌≤◌, true, false, Some, None, length, IfOk, OnOk, OnErr, IsSome, option_map};
 ghost use Rattle.std.specs.Arc.{arc_value};
-ghost use Rattle.evict_core.specs.Machine.{Hit, Claim, Crowded, Ask as ask_step, Fill, Fail, Unpin, Limits, Flying, max_entries, max_budget, max_cost};
+ghost use Rattle.evict_core.specs.Machine.{Hit, Claim, Crowded, Ask as ask_step, Fill, Fail, Unpin, Limits, Hard, Flying, max_entries, max_budget, max_cost};
+ghost use Rattle.evict_core.specs.Machine.{IsHardLimit, holds_all, has_space, has_room, can_fill};
 ghost use Rattle.evict_core.specs.Machine.{one_pin_less, has_idle, status_of, pins_in, maker_in, is_within, evict, trim, ask_answer, state_after, hit};
 ghost use Rattle.evict_core.specs.History.{opening};
 ghost use Rattle.evict_core.specs.Recency.{change};
@@ -9,6 +10,8 @@ ghost use Rattle.evict_core.specs.Asked.{IsAskAnswer, ready_pins, ready_value, t
 
 use crate::ask::Ask;
 use crate::counts::{Counts, Totals, raise};
+use crate::freed::Freed;
+use crate::hard_limit::{HardLimit, is_held};
 use crate::ledger::Ledger;
 use crate::look::Look;
 use crate::stored::Stored;
@@ -18,32 +21,34 @@ use std::hash::Hash;
 use std::marker::Model;
 use std::sync::Arc;
 
-/// A list of keys, the most recently used first, with a limit of entries and a budget for the cost of those that no pin holds.
-/// Each call is one step of the cache machine. All but the evictions take O(1) expected.
+/// A list of keys, the most recently used first, with a limit of entries, a budget for the cost of those that no pin holds, and a
+/// hard limit of all together, where one is set. Each call is one step of the cache machine. All but the evictions take O(1) expected.
 #[derive(Drop)]
 pub struct Entries<K: Eq + Hash, V> {
     list: Ledger<K, V>,
     limit: u32,
     budget: u64,
+    hard: Option<HardLimit>,
     counts: Counts,
+    makings: u32,
 }
 
 impl<K: Eq + Hash, V> Model for Entries<K, V> {
-    ghost use Rattle.std.specs.Prelude.{◌≤◌, length};
-    ghost use Rattle.evict_core.specs.Machine.{State, max_entries};
+    ghost use Rattle.std.specs.Prelude.{◌≡◌, ◌≤◌, length};
+    ghost use Rattle.evict_core.specs.Machine.{State, IsHardLimit, flying, max_entries};
     ghost use Rattle.evict_core.specs.Codes.{state_code};
 
     ghost Value = { State K V };
 
     ghost coded = { state_code K.code V.code };
 
-    ghost view = { λ e. record { entries = e.list; limit = e.limit; budget = e.budget; counts = e.counts } };
+    ghost view = { λ e. record { entries = e.list; limit = e.limit; budget = e.budget; hard = e.hard; counts = e.counts } };
 
-    ghost invariant = { λ e. (length e.list ≤ max_entries) × (e.limit ≤ max_entries) };
+    ghost invariant = { λ e. (length e.list ≤ max_entries) × (e.limit ≤ max_entries) × (e.makings ≡ flying e.list) × IsHardLimit e.hard };
 }
 
 impl<K: Eq + Hash, V> Entries<K, V> {
-    /// No entries, with a limit from 1 to 65,536 and a budget of at most 2^40.
+    /// No entries, with a limit from 1 to 65,536, a budget of at most 2^40 and no hard limit.
     pub fn open(alloc: Global, entries: u32, budget: u64) -> Mem<Entries<K, V>>
         requires least { 1 ≤ entries }
         requires most { entries ≤ max_entries }
@@ -55,6 +60,7 @@ impl<K: Eq + Hash, V> Entries<K, V> {
             list,
             limit: entries,
             budget,
+            hard: None,
             counts: Counts {
                 hits: 0,
                 claims: 0,
@@ -63,6 +69,7 @@ impl<K: Eq + Hash, V> Entries<K, V> {
                 crowded: 0,
                 evictions: 0,
             },
+            makings: 0,
         })
     }
 
@@ -87,8 +94,8 @@ impl<K: Eq + Hash, V> Entries<K, V> {
     }
 
     /// Takes the leave to make the value of a key, which the number then does. Out of memory changes nothing here, but
-    /// the key is gone.
-    pub fn claim(&mut self, key: K, number: u32) -> Mem<()>
+    /// the key is gone. What is evicted for it goes into `freed`.
+    pub fn claim(&mut self, key: K, number: u32, freed: &mut Freed<K, V>) -> Mem<()>
     where
         K: Drop,
         V: Drop,
@@ -99,7 +106,7 @@ impl<K: Eq + Hash, V> Entries<K, V> {
         if self.list.len() < self.limit as usize {
             return self.claim_free(key, number);
         }
-        self.claim_full(key, number)
+        self.claim_full(key, number, freed)
     }
 
     /// The number that makes the key.
@@ -112,7 +119,20 @@ impl<K: Eq + Hash, V> Entries<K, V> {
         }
     }
 
-    /// The key that is being made has its value, with one pin, and is the most recent. The cost is at most 2^32.
+    /// Whether the hard limit, where one is set, has room for a key that is being made to be filled at this cost.
+    pub fn can_fill(&self, cost: u64) -> bool
+        requires { cost ≤ max_cost }
+        ensures { result ≡ can_fill self.now cost }
+    {
+        is_held(
+            self.hard,
+            self.list.cost() + cost,
+            self.makings.saturating_sub(1),
+        )
+    }
+
+    /// The key that is being made has its value, with one pin, and is the most recent. The cost is at most 2^32. It doesn't ask
+    /// for room within a hard limit.
     pub fn fill(&mut self, key: &K, value: Arc<V>, cost: u64)
     where
         V: Drop,
@@ -122,22 +142,24 @@ impl<K: Eq + Hash, V> Entries<K, V> {
     {
         self.list.fill(key, cost, value);
         self.counts.fills = raise(self.counts.fills);
+        self.makings -= 1;
     }
 
-    /// The key that is being made is taken away.
-    pub fn fail(&mut self, key: &K)
+    /// The key that is being made is taken away. It goes into `freed`.
+    pub fn fail(&mut self, key: &K, freed: &mut Freed<K, V>)
     where
         K: Drop,
         V: Drop,
         requires { IsSome (maker_in (status_of K.eq self.old key.now)) }
         ensures { (m : ℕ) → self.new ≡ state_after K.eq self.old m (Fail key.now) }
     {
-        self.list.remove(key);
+        self.list.remove(key, freed);
         self.counts.fails = raise(self.counts.fails);
+        self.makings -= 1;
     }
 
-    /// One pin of the key is given back, and then as few entries are evicted as the limits want.
-    pub fn unpin(&mut self, key: &K)
+    /// One pin of the key is given back, and then as few entries are evicted as the limits want. These go into `freed`.
+    pub fn unpin(&mut self, key: &K, freed: &mut Freed<K, V>)
     where
         K: Drop,
         V: Drop,
@@ -145,11 +167,12 @@ impl<K: Eq + Hash, V> Entries<K, V> {
         ensures { (m : ℕ) → self.new ≡ state_after K.eq self.old m (Unpin key.now) }
     {
         self.give_back(key);
-        self.trim();
+        self.trim(freed);
     }
 
     /// New limits, the entries from 1 to 65,536 and the budget at most 2^40, and then as few entries are evicted as they want.
-    pub fn set_limits(&mut self, entries: u32, budget: u64)
+    /// These go into `freed`.
+    pub fn set_limits(&mut self, entries: u32, budget: u64, freed: &mut Freed<K, V>)
     where
         K: Drop,
         V: Drop,
@@ -160,7 +183,23 @@ impl<K: Eq + Hash, V> Entries<K, V> {
     {
         self.limit = entries;
         self.budget = budget;
-        self.trim();
+        self.trim(freed);
+    }
+
+    /// A hard limit of what the entries cost together, each that is being made at what the limit has for one, or none any more.
+    /// From then on a key is crowded where one more making would pass it. It evicts nothing. False where the entries pass it as
+    /// they are: then nothing changes.
+    pub fn set_hard_limit(&mut self, hard: Option<HardLimit>) -> bool
+        requires { IsHardLimit hard }
+        ensures set { result ≡ true → (m : ℕ) → self.new ≡ state_after K.eq self.old m (Hard hard) }
+        ensures refused { result ≡ false → self.new ≡ self.old }
+        ensures holds { result ≡ holds_all hard self.old.entries }
+    {
+        if !self.holds(hard) {
+            return false;
+        }
+        self.hard = hard;
+        true
     }
 
     /// The pins of a key whose value is made.
@@ -218,9 +257,23 @@ impl<K: Eq + Hash, V> Entries<K, V> {
     }
 
     fn has_room(&self) -> bool
-        ensures { result ≡ (nat_lt (length self.now.entries) self.now.limit || has_idle self.now.entries) }
+        ensures { result ≡ has_room self.now }
     {
-        self.list.len() < self.limit as usize || self.list.has_idle()
+        (self.list.len() < self.limit as usize || self.list.has_idle()) && self.has_space()
+    }
+
+    /// Whether the limit holds all entries as they are.
+    fn holds(&self, hard: Option<HardLimit>) -> bool
+        requires { IsHardLimit hard }
+        ensures { result ≡ holds_all hard self.now.entries }
+    {
+        is_held(hard, self.list.cost(), self.makings)
+    }
+
+    fn has_space(&self) -> bool
+        ensures { result ≡ has_space self.now }
+    {
+        is_held(self.hard, self.list.cost(), self.makings + 1)
     }
 
     fn claim_free(&mut self, key: K, number: u32) -> Mem<()>
@@ -234,11 +287,12 @@ impl<K: Eq + Hash, V> Entries<K, V> {
     {
         self.list.insert(key, number)?;
         self.counts.claims = raise(self.counts.claims);
+        self.makings += 1;
         Ok(())
     }
 
     /// The memory is taken before anything is evicted: the new entry, which is being made, isn't what goes.
-    fn claim_full(&mut self, key: K, number: u32) -> Mem<()>
+    fn claim_full(&mut self, key: K, number: u32, freed: &mut Freed<K, V>) -> Mem<()>
     where
         K: Drop,
         V: Drop,
@@ -249,9 +303,10 @@ impl<K: Eq + Hash, V> Entries<K, V> {
         ensures err { OnErr result (self.new ≡ self.old) }
     {
         self.list.insert(key, number)?;
-        self.list.evict();
+        self.list.evict(freed);
         self.counts.evictions = raise(self.counts.evictions);
         self.counts.claims = raise(self.counts.claims);
+        self.makings += 1;
         Ok(())
     }
 
@@ -268,14 +323,14 @@ impl<K: Eq + Hash, V> Entries<K, V> {
         self.list.drop_pin(key);
     }
 
-    fn trim(&mut self)
+    fn trim(&mut self, freed: &mut Freed<K, V>)
     where
         K: Drop,
         V: Drop,
         ensures { self.new ≡ trim self.old }
     {
         while !self.is_within() {
-            self.evict();
+            self.evict(freed);
         }
     }
 
@@ -286,14 +341,14 @@ impl<K: Eq + Hash, V> Entries<K, V> {
             || self.list.unpinned() <= self.budget && self.list.len() <= self.limit as usize
     }
 
-    fn evict(&mut self)
+    fn evict(&mut self, freed: &mut Freed<K, V>)
     where
         K: Drop,
         V: Drop,
         requires { has_idle self.old.entries ≡ true }
         ensures { self.new ≡ evict self.old }
     {
-        self.list.evict();
+        self.list.evict(freed);
         self.counts.evictions = raise(self.counts.evictions);
     }
 }

@@ -1,5 +1,6 @@
 //! The laws of the cache machine, each over every legal history. The functions do nothing: their contracts are the laws.
 ghost use Rattle.evict_core.specs.Laws.{NoneIsLegal, MoreIsLegal, FrontIsLegal, ClaimsOnce, FillsOnce, ReadyWasFilled, StaysInBudget, StaysInLimit};
+ghost use Rattle.evict_core.specs.Laws.{NoneFits, MoreFits, StaysInHardLimit};
 ghost use Rattle.evict_core.specs.Laws.{FliesWherePending, PinsAreHeld, HeldArePins, GivenWereTaken, HeldIsKept, EachIsPinnable, PinsAfterAll, OneHitMore};
 ghost use Rattle.evict_core.specs.Laws.{CountsAreOfSteps, TrimsLeast};
 
@@ -29,6 +30,14 @@ pub fn budget<K: Eq, V>()
 /// The limit law: a list that is longer than its limit has no entry to evict.
 pub fn limit<K: Eq, V>()
     ensures { StaysInLimit V K.eq }
+{}
+
+/// The hard law: where a hard limit is set, and each fill found room within it, the entries cost at most the limit together, with
+/// what each that is being made counts for. The fills of no history fit; one step more fits where it finds room, or is no fill.
+pub fn hard<K: Eq, V>()
+    ensures within { StaysInHardLimit V K.eq }
+    ensures none { NoneFits V K.eq }
+    ensures more { MoreFits V K.eq }
 {}
 
 /// The pin law: who makes a key has its claim pending, the pins of a key are those that all hold, so that each number's

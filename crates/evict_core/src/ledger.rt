@@ -7,7 +7,9 @@ ghost use Rattle.evict_core.specs.Machine.{Flying, Ready, max_pins, max_entries,
 ghost use Rattle.evict_core.specs.Machine.{one_pin_more, one_pin_less};
 ghost use Rattle.evict_core.specs.Looks.{IsLookAt, after_look};
 ghost use Rattle.evict_core.specs.Places.{stored_status};
+ghost use Rattle.evict_core.specs.Sums.{max_sum};
 
+use crate::freed::Freed;
 use crate::look::Look;
 use crate::recency::Recency;
 use crate::stored::Stored;
@@ -74,6 +76,14 @@ impl<K: Eq + Hash, V> Ledger<K, V> {
         ensures { result ≡ pinned self.now }
     {
         self.pinned
+    }
+
+    /// What all entries cost.
+    pub fn cost(&self) -> u64
+        ensures cost { result ≡ unpinned self.now + pinned self.now }
+        ensures most { result ≤ max_sum }
+    {
+        self.unpinned + self.pinned
     }
 
     /// Whether an entry may be evicted.
@@ -158,26 +168,26 @@ impl<K: Eq + Hash, V> Ledger<K, V> {
         self.entries.insert(key, maker)
     }
 
-    /// Takes a key away that is being made.
-    pub fn remove(&mut self, key: &K)
+    /// Takes a key away that is being made. It goes into `freed`.
+    pub fn remove(&mut self, key: &K, freed: &mut Freed<K, V>)
     where
         K: Drop,
         V: Drop,
         requires { IsSome (maker_in (lookup (K.eq key.now) self.old)) }
         ensures { self.new ≡ remove_entry (K.eq key.now) self.old }
     {
-        self.entries.remove(key);
+        self.entries.remove(key, freed);
     }
 
-    /// Evicts the least recent of the entries that may be evicted.
-    pub fn evict(&mut self)
+    /// Evicts the least recent of the entries that may be evicted. It goes into `freed`.
+    pub fn evict(&mut self, freed: &mut Freed<K, V>)
     where
         K: Drop,
         V: Drop,
         requires { has_idle self.old ≡ true }
         ensures { self.new ≡ without_last is_idle self.old }
     {
-        let cost = self.entries.evict();
+        let cost = self.entries.evict(freed);
         self.unpinned -= cost;
         self.idle -= 1;
     }

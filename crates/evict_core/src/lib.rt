@@ -4,6 +4,8 @@
 mod ask;
 mod counts;
 mod entries;
+mod freed;
+mod hard_limit;
 mod laws;
 mod ledger;
 mod look;
@@ -13,4 +15,6 @@ mod stored;
 pub use ask::Ask;
 pub use counts::{Counts, Totals};
 pub use entries::Entries;
-pub use laws::{budget, counted, filled, legal, limit, pin_all, pins, single_fill, trims};
+pub use freed::Freed;
+pub use hard_limit::HardLimit;
+pub use laws::{budget, counted, filled, hard, legal, limit, pin_all, pins, single_fill, trims};

@@ -9,6 +9,7 @@ ghost use Rattle.evict_core.specs.Looks.{IsLookAt, after_look};
 ghost use Rattle.evict_core.specs.Sums.{IsIdleAt, IsBusyAt};
 ghost use Rattle.evict_core.specs.Places.{stored_status, entries_in, is_idle_place, IsTied, IsOldestIdle};
 
+use crate::freed::Freed;
 use crate::look::Look;
 use crate::stored::Stored;
 use indexmap::IndexMap;
@@ -184,20 +185,20 @@ impl<K: Eq + Hash, V> Recency<K, V> {
         Ok(())
     }
 
-    /// Takes the key away.
-    pub fn remove(&mut self, key: &K)
+    /// Takes the key away. It goes into `freed`.
+    pub fn remove(&mut self, key: &K, freed: &mut Freed<K, V>)
     where
         K: Drop,
         V: Drop,
         ensures { self.new ≡ remove_entry (K.eq key.now) self.old }
     {
         if let Some(number) = self.keys.get(key).copied() {
-            drop(take_out(&mut self.keys, &mut self.order, number));
+            take_out(&mut self.keys, &mut self.order, number, freed);
         }
     }
 
-    /// Evicts the least recent of the entries that may be evicted, and returns what it cost.
-    pub fn evict(&mut self) -> u64
+    /// Evicts the least recent of the entries that may be evicted, and returns what it cost. It goes into `freed`.
+    pub fn evict(&mut self, freed: &mut Freed<K, V>) -> u64
     where
         K: Drop,
         V: Drop,
@@ -208,7 +209,7 @@ impl<K: Eq + Hash, V> Recency<K, V> {
         let Some((number, cost)) = oldest_idle(&self.order) else {
             return 0;
         };
-        drop(take_out(&mut self.keys, &mut self.order, number));
+        take_out(&mut self.keys, &mut self.order, number, freed);
         cost
     }
 }
@@ -227,13 +228,14 @@ fn oldest_idle<V>(order: &LruCache<u64, Slot<V>>) -> Option<(u64, u64)>
     None
 }
 
-/// Takes a number out of the list and its key out of the map, and tells the number whose key took its place in the map.
-fn take_out<K: Eq + Hash + Drop, V>(
+/// Takes a number out of the list and its key out of the map, and tells the number whose key took its place in the map. What it
+/// took goes into `freed`. None where the list hasn't the number.
+fn take_out<K: Eq + Hash + Drop, V: Drop>(
     keys: &mut IndexMap<K, u64>,
     order: &mut LruCache<u64, Slot<V>>,
     number: u64,
-) -> Option<Stored<V>>
-    ensures taken { result ≡ option_map (λ p. p.stored) (lookup (nat_eq number) order.old.entries) }
+    freed: &mut Freed<K, V>,
+) -> Option<()>
     ensures shown { (next : ℕ) → IsTied K.eq keys.old.entries order.old.entries order.old.cap next
         → entries_in keys.new.entries order.new.entries ≡ entries_in keys.old.entries (remove_entry (nat_eq number) order.old.entries) }
     ensures tied { (next : ℕ) → IsTied K.eq keys.old.entries order.old.entries order.old.cap next
@@ -241,13 +243,13 @@ fn take_out<K: Eq + Hash + Drop, V>(
 {
     let (_, place) = order.pop_entry(&number)?;
     let Slot { index, stored } = place;
-    drop(keys.swap_remove_index(index));
+    freed.keep(keys.swap_remove_index(index), stored);
     let Some((_, moved)) = keys.get_index(index) else {
-        return Some(stored);
+        return Some(());
     };
     let Some(other) = order.peek_mut(moved) else {
-        return Some(stored);
+        return Some(());
     };
     other.index = index;
-    Some(stored)
+    Some(())
 }

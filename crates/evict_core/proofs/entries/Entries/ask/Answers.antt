@@ -1,15 +1,20 @@
-use Rattle.std.proofs.Common.{◌<◌, ◌≤◌, length, refl, ap, subst, arith}
+use Rattle.std.proofs.Common.{◌<◌, ◌≤◌, length, refl, sym, ap, ◌∙◌, subst, arith}
 use Rattle.std.specs.Map.{lookup}
 use Rattle.std.specs.Option.{IsSome}
 use Rattle.evict_core.specs.Asked.{ready_pins}
-use Rattle.evict_core.specs.Machine.{max_pins, pins_in, one_pin_more}
+use Rattle.evict_core.specs.Machine.{max_pins, pins_in, one_pin_more, flying}
 use Rattle.evict_core.proofs.SumLemmas.{length-to_front}
 use Rattle.evict_core.proofs.LookLemmas.{full-crowds, short-hits}
+use Rattle.evict_core.proofs.FlyingLemmas.{flying-pinned}
 use Rattle.evict_core.proofs.entries.Entries.ask.Goals as goal
 
 pub invariant_of-self : goal.invariant_of-self
-invariant_of-self g c =
-    (omega (arith, ap length c.in-Pinned.ensures.list, length-to_front (g.K.PartialEq.eq c.args.key.now) one_pin_more c.self.inside.list, c.self.invariant.0), c.self.invariant.1)
+invariant_of-self g c = (
+  omega (arith, ap length c.in-Pinned.ensures.list, length-to_front (g.K.PartialEq.eq c.args.key.now) one_pin_more c.self.inside.list, c.self.invariant.0),
+  c.self.invariant.1,
+  c.self.invariant.2 ∙ sym (ap flying c.in-Pinned.ensures.list ∙ flying-pinned (g.K.PartialEq.eq c.args.key.now) c.self.inside.list),
+  c.self.invariant.3,
+)
 
 pub returns-in-Full : goal.returns-in-Full
 returns-in-Full g c =
