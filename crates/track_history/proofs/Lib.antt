@@ -5,6 +5,7 @@ pub mod Places
 pub mod Soundness
 pub mod Histories
 pub mod Repeats
+pub mod Tries
 pub mod Turns
 pub mod LawLemmas
 pub mod LocalTrackLemmas

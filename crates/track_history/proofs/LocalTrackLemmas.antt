@@ -22,7 +22,7 @@ use Rattle.track_history.specs.declared.answers.Feed.TheVariants.{Accepted, Repe
 use Rattle.track_history.specs.declared.answers.Flushed.{Flushed}
 use Rattle.track_history.specs.declared.answers.Flushed.TheVariants.{Done, TooMany}
 use Rattle.track_history.specs.declared.live_events.LiveEvents.{LiveEvents}
-use Rattle.track_history.proofs.Histories.{live-chunk, live-flush}
+use Rattle.track_history.proofs.Histories.{live-chunk, live-flush, live_short}
 use Rattle.track_history.specs.LocalFeeding.{AreFrontOffered, IsFlushedLocally, IsOfferedTo, after_flush, after_offer, local_flush_answer, offer_answer, with_offer}
 use Rattle.track_history.specs.LocalTracks.{LocalTrackView, HasHistory, IsTrackOf, new_track, track_of}
 
@@ -152,10 +152,16 @@ short_at value events i event all below is =
 pub none_offered : (events : List Event) (old after : LocalTrackView) → after ≡ old → AreFrontOffered events old after
 none_offered events old after same = record { front = []; back = events; is = refl; offered = same }
 
--- ---- what is near
+-- ---- what is live
 
 short_are_events : (events : List Event) → All IsShortEvent events → All IsEvent events
 short_are_events events short = All-weaker IsShortEvent IsEvent (λ e is. is.is_event) events short
+
+pub live_events : (kept : LiveEvents) (history : List Entry) → Tells kept history → All IsEvent (events_of kept)
+live_events kept history tells =
+    subst (λ (events : List Event). All IsEvent events) (sym tells.events) (short_are_events (live history) (live_short history tells.short))
+
+-- ---- what is near
 
 short_have_texts : (events : List Event) → All IsShortEvent events → All (λ (e : Event). length e.text ≤ max_text_bytes) events
 short_have_texts events short = All-weaker IsShortEvent (λ (e : Event). length e.text ≤ max_text_bytes) (λ e is. omega (arith, is.texts)) events short

@@ -1,5 +1,5 @@
 -- Public: what the calls of a track answer, and what they add to its history.
-use Rattle.std.specs.Prelude.{◌≡◌, ◌≢◌, ℕ, ℤ, ◌+◌, ◌-◌, ◌==◌, nat_le, if◌then◌else◌, List, [], ◌∷◌, ◌++◌, length, map, All, Option, Some, None, Result, Ok, Err}
+use Rattle.std.specs.Prelude.{◌≡◌, ◌≢◌, ◌<◌, ◌≤◌, ℕ, ℤ, ◌+◌, ◌-◌, ◌==◌, nat_le, if◌then◌else◌, List, [], ◌∷◌, ◌++◌, length, map, All, Option, Some, None, Result, Ok, Err}
 use Rattle.std.specs.Arc.{arc_value}
 use Rattle.std.specs.List.{position_from}
 use Rattle.ass_events.specs.declared.event.Event.{Event}
@@ -14,6 +14,8 @@ use Rattle.track_history.specs.declared.answers.Feed.{Feed}
 use Rattle.track_history.specs.declared.answers.Feed.TheVariants.{Accepted, Repeated, Malformed, Full, OutOfMemory}
 use Rattle.track_history.specs.declared.answers.Flushed.{Flushed}
 use Rattle.track_history.specs.declared.answers.Flushed.TheVariants.{Done, TooMany}
+use Rattle.track_history.specs.declared.answers.FromRefusal.{FromRefusal}
+use Rattle.track_history.specs.declared.answers.FromRefusal.TheVariants as from
 use Rattle.track_history.specs.declared.scene.Scene.{Scene}
 use Rattle.track_history.specs.ShortEvents.{IsShortEvent}
 
@@ -85,3 +87,9 @@ pub record IsSceneOf (history : List Entry) (t : ℤ) (scene : Scene) : Type 0 w
   pub events : AreNear span_of (live history) t (map arc_value scene.events)
   pub spans : AreNearSpans (map arc_value scene.events) t scene.spans
   pub short : All IsShortEvent (map arc_value scene.events)
+
+-- The scene of a history that has at least so many entries, or how many it has where these are fewer. Memory ran out only where it has enough.
+abbrev pub IsSceneFrom : List Entry → ℤ → ℕ → Result Scene FromRefusal → Type 0
+IsSceneFrom history t least (Ok scene) = (least ≤ length history) × IsSceneOf history t scene
+IsSceneFrom history t least (Err (from.Behind n)) = (n ≡ length history) × (n < least)
+IsSceneFrom history t least (Err from.OutOfMemory) = least ≤ length history

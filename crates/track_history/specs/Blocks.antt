@@ -1,10 +1,14 @@
 -- Public: blocks of spans, and what they have together.
-use Rattle.std.specs.Prelude.{◌≡◌, ◌≢◌, ◌<◌, ◌≤ℤ◌, List, ◌∷◌, ◌++◌, length, All}
+use Rattle.std.specs.Prelude.{◌≡◌, ◌≢◌, ◌<◌, ◌≤ℤ◌, ℕ, List, ◌∷◌, ◌++◌, length, All}
 use Rattle.std.specs.List.{flat_map}
 use Rattle.ass_events.specs.Histories.{Pairwise}
 use Rattle.near_events.specs.declared.spans.EventSpan.{EventSpan}
 use Rattle.track_history.specs.declared.blocks.Block.{Block}
 use Rattle.near_events.specs.Spans.{StandsBefore}
+
+-- a block with so many spans takes no further one
+abbrev pub most_spans : ℕ
+most_spans = 512
 
 -- a block has a span, and none begins before `first` or ends after `last`
 pub record IsSpanBlock (block : Block) : Type 0 where

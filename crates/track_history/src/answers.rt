@@ -75,3 +75,12 @@ pub enum LookRefusal {
     TurnOut,
     OutOfMemory,
 }
+
+/// Why a look for at least so many entries of the history has no scene.
+#[derive(Clone, Copy, Debug, PartialEq, Eq)]
+pub enum FromRefusal {
+    /// The history has fewer: so many.
+    Behind(usize),
+    /// The history has enough.
+    OutOfMemory,
+}

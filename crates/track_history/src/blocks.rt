@@ -1,10 +1,10 @@
 //! Blocks of spans.
 
-ghost use Rattle.std.specs.Prelude.{◌≡◌, ◌≢◌, ◌<◌, ◌≤◌, ◌≤ℤ◌, ◌∷◌, [], ◌++◌, All, IfOk, OnOk, OnErr, length, take, drop, slice_index_or};
+ghost use Rattle.std.specs.Prelude.{◌≡◌, ◌≢◌, ◌<◌, ◌≤◌, ◌≤ℤ◌, ◌∷◌, [], ◌++◌, All, IfOk, OnOk, OnErr, length, nat_le, take, drop, slice_index_or};
 ghost use Rattle.std.specs.List.{insert};
 ghost use Rattle.ass_events.specs.Histories.{Pairwise};
 ghost use Rattle.near_events.specs.Spans.{StandsBefore};
-ghost use Rattle.track_history.specs.Blocks.{IsSpanBlock};
+ghost use Rattle.track_history.specs.Blocks.{IsSpanBlock, most_spans};
 
 use ass_num::Mem;
 use near_events::EventSpan;
@@ -47,7 +47,9 @@ impl Block {
     }
 
     /// Whether the block takes no further span.
-    pub fn is_full(&self) -> bool {
+    pub fn is_full(&self) -> bool
+        ensures { result ≡ nat_le most_spans (length self.now.spans.items) }
+    {
         self.spans.len() >= MOST
     }
 

@@ -10,8 +10,9 @@ mod local_track;
 mod near_index;
 mod scene;
 mod track;
+mod within;
 
-pub use answers::{Feed, Flushed, LookRefusal, TrackEntry, TurnOut};
+pub use answers::{Feed, Flushed, FromRefusal, LookRefusal, TrackEntry, TurnOut};
 pub use live_events::LiveEvents;
 pub use local_track::LocalTrack;
 pub use scene::Scene;

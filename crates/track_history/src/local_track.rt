@@ -75,6 +75,14 @@ impl LocalTrack {
         self.live.entries()
     }
 
+    /// The live events, in the order in which they were accepted.
+    pub fn events(&self) -> &[Arc<Event>]
+        ensures events { map arc_value result.now ≡ self.now.events }
+        ensures each { All IsEvent (map arc_value result.now) }
+    {
+        self.live.events.as_slice()
+    }
+
     /// The live events that matter at an instant, and their spans.
     pub fn near(&self, alloc: Global, t: i64) -> Mem<NearEvents>
         ensures near { IfOk result (λ near. AreNear span_of self.now.events t (map arc_value near.events)) }

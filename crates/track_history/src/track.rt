@@ -8,11 +8,11 @@ ghost use Rattle.ass_events.specs.Events.{event_of};
 ghost use Rattle.ass_events.specs.Histories.{Entry, live};
 ghost use Rattle.ass_num.specs.Limits.{max_text_bytes};
 ghost use Rattle.ass_events.specs.Ranges.{IsEvent, text_bytes};
-ghost use Rattle.track_history.specs.Answers.{IsSceneOf, read_orders};
+ghost use Rattle.track_history.specs.Answers.{IsSceneFrom, IsSceneOf, read_orders};
 ghost use Rattle.track_history.specs.Calls.{IsFed, IsFlushed, IsOffered, IsTriedLook, IsTurn, StandsFor, TrackView, history_of};
 ghost use Rattle.track_history.specs.Tellings.{IsSound, Tells};
 
-use crate::answers::{Feed, Flushed, LookRefusal, TrackEntry, TurnOut};
+use crate::answers::{Feed, Flushed, FromRefusal, LookRefusal, TrackEntry, TurnOut};
 use crate::live_events::LiveEvents;
 use crate::scene::Scene;
 use ass_events::{ChunkRefusal, Event, read_chunk};
@@ -258,6 +258,34 @@ impl Track {
         self.scene_of(alloc, turn, t)
     }
 
+    /// What the history shows at an instant, in milliseconds, where it has at least so many entries. Where it has fewer the answer says
+    /// how many, and takes no memory.
+    pub fn look_from<R: Wait>(
+        &self,
+        rt: &R,
+        alloc: Global,
+        pass: TrackPass,
+        t: i64,
+        least: usize,
+    ) -> (TrackPass, Result<Scene, FromRefusal>)
+        requires { IsOf self.now pass }
+        ensures turn { IsTurn pass result.0 None }
+        ensures scene { IsSceneFrom (history_of result.0.seen) t least result.1 }
+    {
+        let TrackPass { pass } = pass;
+        let turn = self.cell.take(rt, pass);
+        let n = turn.value().entries();
+        if n < least {
+            let pass = self.cell.give(turn, None);
+            return (TrackPass { pass }, Err(FromRefusal::Behind(n)));
+        }
+        let (pass, scene) = self.scene_of(alloc, turn, t);
+        match scene {
+            Ok(scene) => (pass, Ok(scene)),
+            Err(_) => (pass, Err(FromRefusal::OutOfMemory)),
+        }
+    }
+
     /// Looks without waiting: where another pass has the turn, the try is lost, and there is no scene.
     pub fn try_look(
         &self,
@@ -367,7 +395,12 @@ fn scene(alloc: Global, live: &LiveEvents, t: i64) -> Mem<Scene>
 }
 
 /// The event of a chunk, to share. Else the answer to the chunk, which takes no turn.
-fn read_event(alloc: Global, chunk: &[u8], start: i64, duration: i64) -> Result<Arc<Event>, Feed>
+pub(crate) fn read_event(
+    alloc: Global,
+    chunk: &[u8],
+    start: i64,
+    duration: i64,
+) -> Result<Arc<Event>, Feed>
     requires { length chunk.now ≤ max_text_bytes }
     ensures event { IfOk result (λ event. event_of chunk.now start duration ≡ Ok (arc_value event)) }
     ensures in_range { IfOk result (λ event. IsEvent (arc_value event)) }
