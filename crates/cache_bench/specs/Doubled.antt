@@ -5,7 +5,7 @@ use Rattle.flight_cache.specs.Shards.{CacheView, CachePassView, IsCacheOf, EachH
 
 -- each key's value is twice the key and costs 1, and the key is its own number
 abbrev pub doubled : {T : Type 0} → Meaning ℕ ℕ T
-doubled = record { made = λ _ k. 2 * k; cost = λ _. 1; numbers = λ k. k ∷ [] }
+doubled = record { made = λ _ k. 2 * k; cost = λ _. 1; numbers = λ k. k ∷ []; rank = λ k. 0 }
 
 -- a pass of the cache that holds no pin and has no claim open
 pub record IsFreePass {T : Type 0} (cache : CacheView T) (pass : CachePassView ℕ T) : Type 0 where

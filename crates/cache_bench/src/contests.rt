@@ -1,6 +1,6 @@
 //! What threads make of a key that several want at once. Each wait has a bound.
 ghost use Rattle.std.specs.Prelude.{◌==◌, IsSomeAnd};
-ghost use Rattle.flight_cache.specs.Shards.{IsCacheOf, GivesBack};
+ghost use Rattle.flight_cache.specs.Shards.{GivesBack};
 ghost use Rattle.cache_bench.specs.Doubled.{IsFreePass, doubled};
 
 use crate::orders::{Keys, SHARD_KEYS, keys_of_shard};
@@ -55,7 +55,7 @@ fn claim_and_fail<R: Wait>(
     key: u32,
     flags: &Flags,
 ) -> CachePass<Doubled>
-    requires { IsCacheOf cache.now pass }
+    requires { IsFreePass cache.now pass }
     ensures { GivesBack (◌==◌) doubled cache.now pass result }
 {
     let (pass, asked) = cache.ask(rt, alloc, pass, &key);

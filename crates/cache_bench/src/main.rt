@@ -9,14 +9,13 @@ mod stop;
 mod visits;
 mod workers;
 
-ghost use Rattle.std.specs.Prelude.{◌==◌};
-ghost use Rattle.flight_cache.specs.Shards.{IsCacheOf, GivesBack};
-ghost use Rattle.cache_bench.specs.Doubled.{doubled};
+ghost use Rattle.std.specs.Prelude.{IsSomeAnd};
+ghost use Rattle.cache_bench.specs.Doubled.{IsFreePass};
 
 use ass_num::Mem;
 use contests::{fail_before_another, visit_one_key};
 use evict_core::Totals;
-use flight_cache::{Cache, CachePass};
+use flight_cache::Cache;
 use orders::{Keys, keys_apart, keys_mixed};
 use std::alloc::Global;
 use std::sync::Wait;
@@ -24,14 +23,14 @@ use std::thread::Threads;
 use std::time::{Clock, Duration, Instant};
 use std::{env, io};
 use stop::Stop;
-use visits::{Doubled, visit_keys};
-use workers::{lend_four, rejoin_four, work_by_four};
+use visits::Doubled;
+use workers::{Worker, lend, lend_four, rejoin, rejoin_four, work, work_by_four};
 
 /// So many entries that no shard is full.
 const ENTRIES: u32 = 65_536;
 
-/// Each value costs 1, so none is evicted.
-const BUDGET: u64 = 1_000_000;
+/// Each entry costs 21, so none is evicted.
+const BUDGET: u64 = 10_000_000;
 
 /// So often a time is taken. The least one counts.
 const LAPS: u32 = 200;
@@ -51,18 +50,17 @@ fn visit_all<R: Wait>(
     rt: &R,
     alloc: Global,
     cache: &Cache<Doubled>,
-    pass: CachePass<Doubled>,
+    worker: &mut Worker,
     keys: &Keys,
     rounds: u32,
-) -> CachePass<Doubled>
-    requires { IsCacheOf cache.now pass }
-    ensures { GivesBack (◌==◌) doubled cache.now pass result }
+)
+    requires { IsSomeAnd worker.old.pass (IsFreePass cache.now) }
+    ensures { IsSomeAnd worker.new.pass (IsFreePass cache.now) }
 {
-    let (pass, _) = visit_keys(rt, alloc, cache, pass, &keys.first, rounds);
-    let (pass, _) = visit_keys(rt, alloc, cache, pass, &keys.second, rounds);
-    let (pass, _) = visit_keys(rt, alloc, cache, pass, &keys.third, rounds);
-    let (pass, _) = visit_keys(rt, alloc, cache, pass, &keys.fourth, rounds);
-    pass
+    work(rt, alloc, cache, worker, &keys.first, rounds);
+    work(rt, alloc, cache, worker, &keys.second, rounds);
+    work(rt, alloc, cache, worker, &keys.third, rounds);
+    work(rt, alloc, cache, worker, &keys.fourth, rounds);
 }
 
 fn since<R: Clock>(rt: &R, began: io::Result<Instant>) -> Duration {
@@ -85,17 +83,19 @@ fn run_threads<R: Wait + Threads + Sync + Clock>(
 ) -> Mem<Outcome> {
     let (cache, pass) = Cache::open(alloc, (), ENTRIES, BUDGET)?;
     let (pass, mut four) = lend_four(&cache, pass);
-    let mut pass = visit_all(rt, alloc, &cache, pass, keys, 1);
+    let (pass, mut one) = lend(&cache, pass);
+    visit_all(rt, alloc, &cache, &mut one, keys, 1);
     let mut by_one = Duration::MAX;
     let mut by_four = Duration::MAX;
     for _ in 0..laps {
         let began = Instant::now(rt);
-        pass = visit_all(rt, alloc, &cache, pass, keys, rounds);
+        visit_all(rt, alloc, &cache, &mut one, keys, rounds);
         by_one = by_one.min(since(rt, began));
         let began = Instant::now(rt);
         work_by_four(rt, alloc, &cache, &mut four, keys, rounds);
         by_four = by_four.min(since(rt, began));
     }
+    let (pass, _) = rejoin(&cache, pass, one);
     let (pass, found) = rejoin_four(&cache, pass, four);
     let (pass, totals) = cache.totals(rt, pass);
     cache.close(pass);

@@ -1,8 +1,8 @@
 //! Visits of a shared cache: a key is asked for, its value made where nobody has, and the pin given back.
 ghost use Rattle.std.specs.Prelude.{◌≡◌, ◌*◌, ◌==◌, IfOk};
 ghost use Rattle.std.specs.Arc.{arc_value};
-ghost use Rattle.flight_cache.specs.Shards.{IsCacheOf, GivesBack};
-ghost use Rattle.cache_bench.specs.Doubled.{doubled};
+ghost use Rattle.flight_cache.specs.Shards.{GivesBack};
+ghost use Rattle.cache_bench.specs.Doubled.{IsFreePass, doubled};
 
 use ass_num::Mem;
 use flight_cache::{Asked, Cache, CachePass, Made, ShardSum};
@@ -56,7 +56,7 @@ fn visit<R: Wait>(
     pass: CachePass<Doubled>,
     key: u32,
 ) -> (CachePass<Doubled>, bool)
-    requires { IsCacheOf cache.now pass }
+    requires { IsFreePass cache.now pass }
     ensures { GivesBack (◌==◌) doubled cache.now pass result.0 }
 {
     let (pass, asked) = cache.ask(rt, alloc, pass, &key);
@@ -71,9 +71,14 @@ fn visit<R: Wait>(
                     let pass = cache.fail(rt, pass, ticket);
                     return (pass, false);
                 };
-                let (pass, pin) = cache.fill(rt, pass, ticket, kept, pinned);
-                let pass = cache.unpin(rt, pass, pin);
-                (pass, true)
+                let (pass, filled) = cache.fill(rt, pass, ticket, kept, pinned);
+                match filled {
+                    Ok(pin) => {
+                        let pass = cache.unpin(rt, pass, pin);
+                        (pass, true)
+                    }
+                    Err(_unkept) => (pass, true),
+                }
             }
             None => (pass, false),
         },
@@ -90,7 +95,7 @@ pub fn visit_keys<R: Wait>(
     keys: &Vec<u32>,
     rounds: u32,
 ) -> (CachePass<Doubled>, u32)
-    requires { IsCacheOf cache.now pass }
+    requires { IsFreePass cache.now pass }
     ensures { GivesBack (◌==◌) doubled cache.now pass result.0 }
 {
     let mut waiting = pass;
@@ -111,7 +116,7 @@ fn visit_round<R: Wait>(
     pass: CachePass<Doubled>,
     keys: &Vec<u32>,
 ) -> (CachePass<Doubled>, u32)
-    requires { IsCacheOf cache.now pass }
+    requires { IsFreePass cache.now pass }
     ensures { GivesBack (◌==◌) doubled cache.now pass result.0 }
 {
     let mut waiting = pass;

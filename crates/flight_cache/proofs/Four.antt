@@ -2,7 +2,7 @@
 use Rattle.std.proofs.Common.{◌≡◌, ℕ, zero, suc, ◌+◌, ◌<◌, Bool, true, false, List, [], length, get_or, take, Some, sym, ap, ◌∙◌, subst, arith}
 use Rattle.std.proofs.lemmas.Bool.{eqb-true}
 use Rattle.std.specs.Cmp.{IsEquivalence}
-use Rattle.evict_core.specs.Machine.{status_of, max_pins}
+use Rattle.evict_core.specs.Machine.{status_of, maker_in, max_pins}
 use Rattle.evict_core.specs.History.{times_named}
 use Rattle.evict_core.specs.Asked.{ready_pins}
 use Rattle.flight_cache.specs.Meaning.{Meaning, shard_count, shard_of}
@@ -10,7 +10,7 @@ use Rattle.flight_cache.specs.Histories.{is_in, value_under}
 use Rattle.flight_cache.specs.Calls.{ShardView, ShardPassView}
 use Rattle.flight_cache.specs.Shards.{Shards, CacheView, CachePassView, IsShardOf, AreShardsOf, AreAlike, at}
 use Rattle.flight_cache.specs.Pinning.{is_named, shown_state, GivesNothing, StopsBeforeAll}
-use Rattle.flight_cache.specs.Holds.{pass_back, passes_back, four_of, pins_at, held_value, IsHeld, IsHoldOf, CanPin, IsPassPinned, AreHeld, AreHoldsOf, CanPinAll, ArePassesPinned}
+use Rattle.flight_cache.specs.Holds.{pass_back, passes_back, four_of, pins_at, maker_at, held_value, IsHeld, IsHoldOf, CanPin, IsPassPinned, AreHeld, AreHoldsOf, CanPinAll, ArePassesPinned}
 use Rattle.flight_cache.specs.declared.holds.Hold.{Hold}
 use Rattle.flight_cache.specs.declared.holds.Hold.TheVariants.{Turn, Pass}
 use Rattle.flight_cache.specs.declared.holds.Holds.{Holds}
@@ -140,4 +140,15 @@ module _ {M K V T : Type 0} (eq : K → K → Bool) (laws : IsEquivalence eq) (s
     pins-back of n lt named k =
         at-each (λ (shard : ShardView T) (after : ShardPassView K T) (hold : Hold M K V T). is_named shards shard.tag.shard ≡ true → ready_pins (status_of eq (shown_state eq meaning shard after) k) ≡ pins_at eq hold k) cache.shards (passes_back holds) (four_of holds)
         (λ t. pins-one cache.shards.first pass.first holds.first h.first t k) (λ t. pins-one cache.shards.second pass.second holds.second h.second t k) (λ t. pins-one cache.shards.third pass.third holds.third h.third t k) (λ t. pins-one cache.shards.fourth pass.fourth holds.fourth h.fourth t k) n lt
+        (subst (λ (m : ℕ). is_named shards m ≡ true) (sym (at-shard cache.tag cache.shards of n lt).number) named)
+
+    -- so is who makes it
+    makers-one : (shard : ShardView T) (p : ShardPassView K T) (hold : Hold M K V T) → IsHoldOf eq meaning shards shard p hold → is_named shards shard.tag.shard ≡ true → (k : K) → maker_in (status_of eq (shown_state eq meaning shard (pass_back hold)) k) ≡ maker_at eq hold k
+    makers-one shard p (Turn turn) h named k = ap (λ z. maker_in (status_of eq z k)) (sym h.1.value.entries)
+    makers-one shard p (Pass other) h named k = let no : true ≡ false = sym named ∙ h.0 in cc
+
+    pub makers-back : AreShardsOf cache.tag cache.shards → (n : ℕ) → n < shard_count → is_named shards n ≡ true → (k : K) → maker_in (status_of eq (shown_state eq meaning (at cache.shards n) (at (passes_back holds) n)) k) ≡ maker_at eq (at (four_of holds) n) k
+    makers-back of n lt named k =
+        at-each (λ (shard : ShardView T) (after : ShardPassView K T) (hold : Hold M K V T). is_named shards shard.tag.shard ≡ true → maker_in (status_of eq (shown_state eq meaning shard after) k) ≡ maker_at eq hold k) cache.shards (passes_back holds) (four_of holds)
+        (λ t. makers-one cache.shards.first pass.first holds.first h.first t k) (λ t. makers-one cache.shards.second pass.second holds.second h.second t k) (λ t. makers-one cache.shards.third pass.third holds.third h.third t k) (λ t. makers-one cache.shards.fourth pass.fourth holds.fourth h.fourth t k) n lt
         (subst (λ (m : ℕ). is_named shards m ≡ true) (sym (at-shard cache.tag cache.shards of n lt).number) named)

@@ -1,17 +1,19 @@
 -- What holds of every history that a shard can have, by the machine's laws.
-use Rattle.std.proofs.Common.{◌≡◌, ℕ, Bool, List, ◌++◌, ◌∷◌, [], sym, ap, ◌∙◌, subst}
+use Rattle.std.proofs.Common.{◌≡◌, ℕ, ◌+◌, ◌*◌, ◌≤◌, Bool, List, ◌++◌, ◌∷◌, [], sym, ap, ◌∙◌, subst, arith}
 use Rattle.std.specs.Cmp.{IsEquivalence}
 use Rattle.turn_cell.specs.History.{History, entries_of}
 use Rattle.turn_cell.proofs.Histories.{IsBelow-map}
-use Rattle.evict_core.specs.Machine.{State, Step}
+use Rattle.evict_core.specs.Machine.{State, Step, idle_cost, unpinned, pinned, flying, status_of}
 use Rattle.evict_core.specs.History.{IsLegal, pins_left, has_open}
 use Rattle.evict_core.proofs.StateLemmas.{IsSound}
 use Rattle.evict_core.proofs.HistoryLemmas.{sound-replay}
+use Rattle.evict_core.proofs.HardLemmas.{stays-in-hard-limit}
 use Rattle.evict_core.proofs.FillLaws.{claims-once, fills-once}
 use Rattle.evict_core.proofs.PinLaws as pin
+use Rattle.evict_core.proofs.SumLemmas.{total-found, weight_in}
 use Rattle.flight_cache.specs.Meaning.{Meaning}
 use Rattle.flight_cache.specs.Histories.{step_of, steps_in, IsLegalUnder, left_by}
-use Rattle.flight_cache.specs.Laws.{ShardsStayInBudget, ShardsStayInLimit, HistoryInBudget, HistoryInLimit, ShardsClaimOnce, ShardsFillOnce, FliesWhereOpen, ShardPinsAreHeld, ShardsKeepHeld}
+use Rattle.flight_cache.specs.Laws.{ShardsStayInBudget, ShardsStayInLimit, HistoryInBudget, HistoryInLimit, HistoryInHardLimit, ShardsStayInHardLimit, IdleInBudget, ShardsClaimOnce, ShardsFillOnce, FliesWhereOpen, ShardPinsAreHeld, ShardsKeepHeld}
 use Rattle.flight_cache.proofs.Standing.{steps-more, own-in}
 use Rattle.flight_cache.specs.declared.kept.Opening.{Opening}
 use Rattle.flight_cache.specs.declared.kept.Entry.{Entry}
@@ -23,8 +25,24 @@ module _ {K V T : Type 0} (eq : K → K → Bool) (laws : IsEquivalence eq) (mea
   pub history_in_budget : HistoryInBudget eq meaning
   history_in_budget under history legal = (sound under history legal).in_budget
 
+  pub idle_in_budget : IdleInBudget eq meaning
+  idle_in_budget under history legal key cost value is =
+      let left = left_by eq meaning under history in
+      let found = total-found idle_cost (eq key) left.entries in
+      let weight : weight_in idle_cost (status_of eq left key) ≡ cost = ap (weight_in idle_cost) is in
+      let within = history_in_budget under history legal in
+      omega (arith, found, weight, within)
+
   pub history_in_limit : HistoryInLimit eq meaning
   history_in_limit under history legal = (sound under history legal).in_limit
+
+  pub history_in_hard_limit : HistoryInHardLimit eq meaning
+  history_in_hard_limit under history legal hard is = stays-in-hard-limit V eq laws under.entries under.budget (steps_in meaning under history) legal.legal legal.fits hard is
+
+  pub stays_in_hard_limit : (M : Type 0) → ShardsStayInHardLimit M eq meaning
+  stays_in_hard_limit M under kept history s hard is =
+      subst (λ (z : State K V). unpinned z.entries + pinned z.entries + hard.making * flying z.entries ≤ hard.cost) (sym s.entries)
+      (history_in_hard_limit under history s.legal hard (ap (λ (z : State K V). z.hard) (sym s.entries) ∙ is))
 
   pub stays_in_budget : (M : Type 0) → ShardsStayInBudget M eq meaning
   stays_in_budget M under kept history s = (subst (λ (z : State K V). IsSound eq z) (sym s.entries) (sound under history s.legal)).in_budget

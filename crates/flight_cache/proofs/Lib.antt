@@ -1,6 +1,7 @@
 pub mod Asking
 pub mod Claiming
 pub mod Four
+pub mod HardSets
 pub mod Home
 pub mod Limits
 pub mod Pinned
@@ -14,3 +15,6 @@ pub mod Sums
 pub mod Trying
 pub mod Values
 pub mod Visits
+pub mod Homes
+pub mod Counted
+pub mod Moved

@@ -42,6 +42,7 @@ module _ {M K V T : Type 0} (eq : K → K → Bool) (laws : IsEquivalence eq) (s
       stands-step meaning shard.tag eq laws same kept new history n (PinAll ks) s
       (subst (λ (l : List K). HitsEach eq kept.entries (keys_in meaning shard l)) (sym of) (hits-of kept history s keys all))
       (filter_passes (is_in meaning shard.tag) ks.value.items)
+      tt
       (is ∙ ap (λ (l : List K). hit_all eq kept.entries (keys_in meaning shard l)) (sym of))
 
   module _ (shards : List ℕ) (pass : ShardPassView K T) where

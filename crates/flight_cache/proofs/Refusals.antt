@@ -1,22 +1,22 @@
 -- What a refusal of pinning several keys leaves, and that it is for one cause.
-use Rattle.std.proofs.Common.{◌≡◌, ℕ, zero, suc, ◌+◌, ◌<◌, ◌≤◌, ◌==◌, nat_lt, Bool, true, false, cond, ◌⊎◌, ⊎_elim, inl, inr, List, [], ◌∷◌, ◌++◌, slice_get, take, Some, None, refl, sym, ap, ◌∙◌, subst, arith}
+use Rattle.std.proofs.Common.{◌≡◌, ℕ, zero, suc, ◌+◌, ◌<◌, ◌≤◌, ◌==◌, nat_lt, Bool, true, false, cond, ◌⊎◌, ⊎_elim, inl, inr, List, [], ◌∷◌, ◌++◌, slice_get, take, Option, Some, None, refl, sym, ap, ◌∙◌, subst, arith}
 use Rattle.std.specs.Bool.{MatchBool}
 use Rattle.std.specs.Cmp.{IsEquivalence}
 use Rattle.std.proofs.lemmas.Bool.{eq-eqb}
 use Rattle.std.proofs.lemmas.List.Elements.{filter-append}
 use Rattle.turn_cell.specs.Passes.{Follows}
 use Rattle.turn_cell.proofs.Passes.{Follows_same, Follows_tries}
-use Rattle.evict_core.specs.Machine.{max_pins, status_of}
+use Rattle.evict_core.specs.Machine.{Status, Flying, Ready, max_pins, maker_in, status_of}
 use Rattle.evict_core.specs.History.{times_named}
 use Rattle.evict_core.specs.Asked.{ready_pins}
 use Rattle.flight_cache.specs.Meaning.{Meaning, shard_of}
 use Rattle.flight_cache.specs.Histories.{is_in}
 use Rattle.flight_cache.specs.Calls.{ShardView, ShardPassView, GivesSteps}
-use Rattle.flight_cache.specs.Shards.{CacheView, CachePassView, AreShardsOf}
-use Rattle.flight_cache.specs.Pinning.{is_named, shards_of, keys_in, shown_state, TurnsWith, StopsBefore, StopsBeforeAll, IsOutAt, IsTurnOut, GivesNothing, IsStoppedAt, pins_shown, IsRefused}
+use Rattle.flight_cache.specs.Shards.{CacheView, CachePassView, AreShardsOf, at}
+use Rattle.flight_cache.specs.Pinning.{is_named, shards_of, keys_in, shown_state, TurnsWith, StopsBefore, StopsBeforeAll, IsOutAt, IsTurnOut, GivesNothing, IsStoppedAt, pins_shown, maker_shown, IsRefused}
 use Rattle.flight_cache.specs.Laws.{RefusedForOneCause}
 use Rattle.flight_cache.specs.declared.pinning.PinRefusal.{PinRefusal}
-use Rattle.flight_cache.specs.declared.pinning.PinRefusal.TheVariants.{TurnOut, NotReady, PinsFull, OutOfMemory}
+use Rattle.flight_cache.specs.declared.pinning.PinRefusal.TheVariants.{TurnOut, NotReady, Making, PinsFull, OutOfMemory}
 use Rattle.flight_cache.proofs.Asking.{gives-nothing}
 use Rattle.flight_cache.proofs.Four.{at-shard, at-each}
 use Rattle.flight_cache.proofs.Refusing.{below-four, named-key, same-nothing}
@@ -56,6 +56,7 @@ module _ {K V T : Type 0} (eq : K → K → Bool) (meaning : Meaning K V T) (cac
   pub refused-nothing : (refusal : PinRefusal) → IsRefused eq meaning cache pass keys after refusal → GivesNothing pass after
   refused-nothing TurnOut h = out-nothing eq meaning cache pass (shards_of meaning keys) after h
   refused-nothing (NotReady i) h = stopped-nothing i h.0 h.1
+  refused-nothing (Making i) h = stopped-nothing i h.0 h.2
   refused-nothing (PinsFull i) h = stopped-nothing i h.0 h.2
   refused-nothing OutOfMemory h = ⊎_elim (λ same. subst (λ (z : CachePassView K T). GivesNothing pass z) (sym same) (same-nothing pass)) (λ stops. stops-nothing keys stops) h
 
@@ -144,20 +145,45 @@ module _ {K V T : Type 0} (eq : K → K → Bool) (meaning : Meaning K V T) (cac
       out-once eq meaning shards cache.shards.fourth pass.fourth after.fourth (named-out cache.shards.fourth 3 of.fourth.number out.named) (out-here eq meaning shards cache.shards.fourth pass.fourth after.fourth 3 3 of.fourth.number out.fourth) stops.fourth.turn
   out-or-stopped (suc (suc (suc (suc n)))) out stops = let below = out.below in absurd (omega (arith, below))
 
+-- a key that is being made has no pins
+unmade-pins : {V : Type 0} (o : Option (Status V)) (maker : ℕ) → maker_in o ≡ Some maker → ready_pins o ≡ None
+unmade-pins None maker made = cc
+unmade-pins (Some (Flying number)) maker made = refl
+unmade-pins (Some (Ready pins cost value)) maker made = cc
+
 module _ {K V T : Type 0} (eq : K → K → Bool) (laws : IsEquivalence eq) (same : (a b : K) → eq a b ≡ true → a ≡ b) (meaning : Meaning K V T) where
+  unmade-shown : (cache : CacheView T) (p q : CachePassView K T) (keys : List K) (k : K) (maker : ℕ) → maker_shown eq meaning cache p keys q k ≡ Some maker → pins_shown eq meaning cache p keys q k ≡ None
+  unmade-shown cache p q keys k maker made = unmade-pins (status_of eq (shown_state eq meaning (at cache.shards (shard_of (meaning.numbers k))) (at q (shard_of (meaning.numbers k)))) k) maker made
+
   pub refused_for_one_cause : RefusedForOneCause eq meaning
   refused_for_one_cause cache p q keys TurnOut TurnOut of a b r s = refl
   refused_for_one_cause cache p q keys TurnOut (NotReady j) of a b r s = absurd (out-or-stopped eq meaning cache of p (shards_of meaning keys) q (take j keys) r.0 r.1 s.1.0)
+  refused_for_one_cause cache p q keys TurnOut (Making j) of a b r s = absurd (out-or-stopped eq meaning cache of p (shards_of meaning keys) q (take j keys) r.0 r.1 s.2.0)
   refused_for_one_cause cache p q keys TurnOut (PinsFull j) of a b r s = absurd (out-or-stopped eq meaning cache of p (shards_of meaning keys) q (take j keys) r.0 r.1 s.2.0)
   refused_for_one_cause cache p q keys (NotReady i) TurnOut of a b r s = absurd (out-or-stopped eq meaning cache of p (shards_of meaning keys) q (take i keys) s.0 s.1 r.1.0)
   refused_for_one_cause cache p q keys (NotReady i) (NotReady j) of a b r s = ap NotReady (one-place eq same laws meaning keys cache of p q i j r.0 s.0 (inl r.2) (inl s.2) r.1 s.1).0
+  refused_for_one_cause cache p q keys (NotReady i) (Making j) of a b r s =
+      let one = one-place eq same laws meaning keys cache of p q i j r.0 s.0 (inl r.2) (inl (unmade-shown cache p q keys s.0 s.1 s.3)) r.1 s.2 in
+      let no = sym r.3 ∙ (ap (maker_shown eq meaning cache p keys q) one.1 ∙ s.3) in cc
   refused_for_one_cause cache p q keys (NotReady i) (PinsFull j) of a b r s =
       let one = one-place eq same laws meaning keys cache of p q i j r.0 s.0 (inl r.2) (inr (s.1, s.3, s.4)) r.1 s.2 in
       let no = sym r.2 ∙ (ap (pins_shown eq meaning cache p keys q) one.1 ∙ s.3) in cc
+  refused_for_one_cause cache p q keys (Making i) TurnOut of a b r s = absurd (out-or-stopped eq meaning cache of p (shards_of meaning keys) q (take i keys) s.0 s.1 r.2.0)
+  refused_for_one_cause cache p q keys (Making i) (NotReady j) of a b r s =
+      let one = one-place eq same laws meaning keys cache of p q i j r.0 s.0 (inl (unmade-shown cache p q keys r.0 r.1 r.3)) (inl s.2) r.2 s.1 in
+      let no = sym r.3 ∙ (ap (maker_shown eq meaning cache p keys q) one.1 ∙ s.3) in cc
+  refused_for_one_cause cache p q keys (Making i) (Making j) of a b r s =
+      ap Making (one-place eq same laws meaning keys cache of p q i j r.0 s.0 (inl (unmade-shown cache p q keys r.0 r.1 r.3)) (inl (unmade-shown cache p q keys s.0 s.1 s.3)) r.2 s.2).0
+  refused_for_one_cause cache p q keys (Making i) (PinsFull j) of a b r s =
+      let one = one-place eq same laws meaning keys cache of p q i j r.0 s.0 (inl (unmade-shown cache p q keys r.0 r.1 r.3)) (inr (s.1, s.3, s.4)) r.2 s.2 in
+      let no = sym (unmade-shown cache p q keys r.0 r.1 r.3) ∙ (ap (pins_shown eq meaning cache p keys q) one.1 ∙ s.3) in cc
   refused_for_one_cause cache p q keys (PinsFull i) TurnOut of a b r s = absurd (out-or-stopped eq meaning cache of p (shards_of meaning keys) q (take i keys) s.0 s.1 r.2.0)
   refused_for_one_cause cache p q keys (PinsFull i) (NotReady j) of a b r s =
       let one = one-place eq same laws meaning keys cache of p q i j r.0 s.0 (inr (r.1, r.3, r.4)) (inl s.2) r.2 s.1 in
-      let no = sym s.2 ∙ (ap (pins_shown eq meaning cache p keys q) (sym one.1) ∙ r.3) in cc
+      let no = sym r.3 ∙ (ap (pins_shown eq meaning cache p keys q) one.1 ∙ s.2) in cc
+  refused_for_one_cause cache p q keys (PinsFull i) (Making j) of a b r s =
+      let one = one-place eq same laws meaning keys cache of p q i j r.0 s.0 (inr (r.1, r.3, r.4)) (inl (unmade-shown cache p q keys s.0 s.1 s.3)) r.2 s.2 in
+      let no = sym r.3 ∙ (ap (pins_shown eq meaning cache p keys q) one.1 ∙ (unmade-shown cache p q keys s.0 s.1 s.3)) in cc
   refused_for_one_cause cache p q keys (PinsFull i) (PinsFull j) of a b r s = ap PinsFull (one-place eq same laws meaning keys cache of p q i j r.0 s.0 (inr (r.1, r.3, r.4)) (inr (s.1, s.3, s.4)) r.2 s.2).0
   refused_for_one_cause cache p q keys OutOfMemory other of a b r s = absurd (a refl)
   refused_for_one_cause cache p q keys one OutOfMemory of a b r s = absurd (b refl)

@@ -7,7 +7,7 @@ use Rattle.std.proofs.lemmas.List.{append-nil, map-append}
 use Rattle.turn_cell.specs.History.{History, entry_list, with_entry}
 use Rattle.turn_cell.specs.Passes.{Follows, IsWholeBut, first_pass, split_pass, joined_pass, mine}
 use Rattle.turn_cell.proofs.Passes.{Follows_same, Follows_trans, IsOf-Follows, TakesTurn_itself, whole_first, whole_follows, whole_rejoined, whole_list, whole-but_none, whole-but_split, whole-but_join, whole-but_follows}
-use Rattle.evict_core.specs.Machine.{Step, Answer, Ask, PinAll, IsEnabled, ask_answer}
+use Rattle.evict_core.specs.Machine.{Step, Ask, PinAll, Spill, IsEnabled}
 use Rattle.evict_core.specs.History.{one_if, times_named, pins_taken, pins_given, pins_left, pins_held, is_open_in, has_open}
 use Rattle.evict_core.proofs.HistoryLemmas.{taken-append, given-append, open-append}
 use Rattle.flight_cache.specs.Meaning.{Meaning, shard_of}
@@ -17,7 +17,7 @@ use Rattle.flight_cache.specs.Shards.{Shards, CachePassView, EachHasGivenBack, a
 use Rattle.flight_cache.specs.Pinning.{is_named, shards_of, keys_in, TurnsWith}
 use Rattle.flight_cache.specs.declared.kept.Opening.{Opening}
 use Rattle.flight_cache.specs.declared.kept.Entry.{Entry}
-use Rattle.flight_cache.specs.Laws.{HitHolds, FillHolds, UnpinGives, PinAllHolds, ClaimOpens, IsLater, CallIsLater, LaterIsLater, StaysOfCache, FirstIsWhole, StaysWhole, JoinedIsWhole, WholeButNone, SplitIsWholeBut, JoinIsWholeBut, LaterIsWholeBut, WholeKnowsAll, AskIsAnswered, PlacesAreInShard, PinnedAllHolds, NothingHolds, NothingIsGivenBack, GivenBackAgain, OneGivesBack, GivesFollow, GivesOwnSteps, EachIsLater, GivesItself}
+use Rattle.flight_cache.specs.Laws.{HitHolds, FillHolds, UnpinGives, PinAllHolds, ClaimOpens, IsLater, CallIsLater, LaterIsLater, StaysOfCache, FirstIsWhole, StaysWhole, JoinedIsWhole, WholeButNone, SplitIsWholeBut, JoinIsWholeBut, LaterIsWholeBut, WholeKnowsAll, AskIsAnswered, SpillsHaveNoRoom, PlacesAreInShard, PinnedAllHolds, NothingHolds, NothingIsGivenBack, GivenBackAgain, OneGivesBack, GivesFollow, GivesOwnSteps, EachIsLater, GivesItself}
 use Rattle.flight_cache.proofs.Asking.{gives-follows}
 use Rattle.flight_cache.proofs.Places.{named-kept}
 use Rattle.flight_cache.proofs.Four.{at-shard, at-each}
@@ -53,19 +53,23 @@ module _ {K V T : Type 0} (eq : K → K → Bool) (meaning : Meaning K V T) wher
       ap (map (step_of meaning shard.tag)) (gives-follows eq meaning shard pass after steps g).mine
       ∙ (map-append (step_of meaning shard.tag) (mine pass) (entry_list g.entry) ∙ ap (λ (l : List (Step K V)). own_steps meaning shard.tag pass ++ l) g.are)
 
-  -- the last entry of what is seen was answered by the state before it
-  last-answer : (under : Opening T) (list : History (Entry K)) (n : ℕ) (entry : Option (Entry K)) (key : K) (answer : Answer)
-      → map (step_of meaning under) (entry_list entry) ≡ Ask key answer ∷ [] → IsLegalUnder eq meaning under (with_entry list n entry)
-      → ask_answer eq (left_by eq meaning under list) key ≡ Some answer
-  last-answer under list n None key answer are legal = cc
-  last-answer under list n (Some e) key answer are legal =
-      let step : step_of meaning under e ≡ Ask key answer = cc in
+  -- the last step of what is seen was enabled in the state before it
+  last-step : (under : Opening T) (list : History (Entry K)) (n : ℕ) (entry : Option (Entry K)) (step : Step K V)
+      → map (step_of meaning under) (entry_list entry) ≡ step ∷ [] → IsLegalUnder eq meaning under (with_entry list n entry)
+      → IsEnabled eq (left_by eq meaning under list) (pins_held eq (steps_in meaning under list) n) n step
+  last-step under list n None step are legal = cc
+  last-step under list n (Some e) step are legal =
+      let is : step_of meaning under e ≡ step = cc in
       let may = legal.legal (steps_in meaning under list) [] (n, step_of meaning under e) (steps-more meaning under list n e) in
-      subst (λ (z : Step K V). IsEnabled eq (left_by eq meaning under list) (pins_held eq (steps_in meaning under list) n) n z) step may
+      subst (λ (z : Step K V). IsEnabled eq (left_by eq meaning under list) (pins_held eq (steps_in meaning under list) n) n z) is may
 
   pub ask_is_answered : AskIsAnswered eq meaning
   ask_is_answered shard pass after key answer g =
-      last-answer shard.tag g.takes.list g.waited.number g.entry key answer g.are (subst (λ (h : History (Entry K)). IsLegalUnder eq meaning shard.tag h) g.takes.seen g.legal)
+      last-step shard.tag g.takes.list g.waited.number g.entry (Ask key answer) g.are (subst (λ (h : History (Entry K)). IsLegalUnder eq meaning shard.tag h) g.takes.seen g.legal)
+
+  pub spills_have_no_room : SpillsHaveNoRoom eq meaning
+  spills_have_no_room shard pass after key cost g =
+      (last-step shard.tag g.takes.list g.waited.number g.entry (Spill key cost) g.are (subst (λ (h : History (Entry K)). IsLegalUnder eq meaning shard.tag h) g.takes.seen g.legal)).1
 
   empty-given : (shard : ShardView T) (pass : ShardPassView K T) → own_steps meaning shard.tag pass ≡ [] → HasGivenBack eq meaning shard pass
   empty-given shard pass none = record {

@@ -10,18 +10,20 @@ use Rattle.turn_cell.specs.History.{History, entries_of, with_entry, entry_list}
 use Rattle.turn_cell.specs.Passes.{TurnView, IsTurnAfterTries, mine}
 use Rattle.turn_cell.proofs.Histories.{entries_of-map}
 use Rattle.turn_cell.proofs.Passes.{Follows_same, TakesTurn_give}
-use Rattle.evict_core.specs.Machine.{State, Status, Step, Answer, IsEnabled, state_after, maker_in, pins_in, status_of, ask_answer, max_entries, max_budget}
+use Rattle.evict_core.specs.Machine.{State, Status, Step, Answer, IsHardLimit, IsEnabled, can_fill, holds_all, state_after, maker_in, pins_in, status_of, ask_answer, max_entries, max_budget}
 use Rattle.evict_core.specs.Machine as machine
 use Rattle.evict_core.specs.Asked.{ready_value}
-use Rattle.evict_core.specs.History.{opening, replay, pins_taken, pins_given, pins_left, pins_held, is_open_in, has_open, MayFollow, IsLegal}
+use Rattle.evict_core.specs.History.{opening, replay, pins_taken, pins_given, pins_left, pins_held, is_open_in, has_open, MayFollow, IsLegal, IsFit, FillsFit}
+use Rattle.evict_core.specs.declared.hard_limit.HardLimit.{HardLimit}
+use Rattle.evict_core.proofs.HardLemmas.{none-fits, more-fits}
 use Rattle.evict_core.proofs.HistoryLemmas.{replay-append, taken-append, given-append, open-append}
 use Rattle.evict_core.proofs.LegalLemmas.{none-is-legal, more-is-legal}
 use Rattle.evict_core.proofs.PinLaws.{flies-where-pending, held-are-pins, given-were-taken}
-use Rattle.flight_cache.specs.Meaning.{Meaning}
+use Rattle.flight_cache.specs.Meaning.{Meaning, entry_cost}
 use Rattle.flight_cache.specs.declared.kept.Opening.{Opening}
 use Rattle.flight_cache.specs.declared.kept.Kept.{Kept}
 use Rattle.flight_cache.specs.declared.kept.Entry.{Entry}
-use Rattle.flight_cache.specs.declared.kept.Entry.TheVariants.{Fill, Fail, Unpin, Limits}
+use Rattle.flight_cache.specs.declared.kept.Entry.TheVariants.{Fill, Fail, Spill, Unpin, Limits, Hard}
 use Rattle.flight_cache.specs.Histories.{value_under, step_of, steps_in, is_in, IsOfShard, AreMade, IsLegalUnder, left_by, Stands}
 use Rattle.flight_cache.specs.Calls.{ShardView, ShardPassView, own_steps, GivesSteps}
 use Rattle.flight_cache.specs.Answers.{IsShortAsk, takes_memory}
@@ -58,6 +60,7 @@ module _ {K V T : Type 0} (meaning : Meaning K V T) (under : Opening T) where
     pub none-legal : IsLegalUnder eq meaning under []
     none-legal = record {
       legal = none-is-legal V eq under.entries under.budget;
+      fits = none-fits V eq under.entries under.budget;
       keys = All-nil (λ (e : ℕ × Step K V). IsOfShard meaning under e.1);
     }
 
@@ -83,14 +86,16 @@ module _ {K V T : Type 0} (meaning : Meaning K V T) (under : Opening T) where
           → Stands eq meaning under kept history
           → IsEnabled eq kept.entries (pins_held eq (steps_in meaning under history) n) n (step_of meaning under e)
           → IsOfShard meaning under (step_of meaning under e)
+          → IsFit kept.entries (step_of meaning under e)
           → new.entries ≡ state_after eq kept.entries n (step_of meaning under e)
           → Stands eq meaning under new (history ++ (n, e) ∷ [])
-      stands-step kept new history n e s enabled named is =
+      stands-step kept new history n e s enabled named fit is =
           let steps = steps_in meaning under history in
           let step = step_of meaning under e in
           let follows : MayFollow eq under.entries under.budget steps (n, step) = subst (λ (z : State K V). IsEnabled eq z (pins_held eq steps n) n step) s.entries enabled in
           let legal : IsLegalUnder eq meaning under (history ++ (n, e) ∷ []) = record {
             legal = subst (λ (h : History (Step K V)). IsLegal eq under.entries under.budget h) (sym (steps-more history n e)) (more-is-legal V eq under.entries under.budget steps (n, step) s.legal.legal follows);
+            fits = subst (λ (h : History (Step K V)). FillsFit eq under.entries under.budget h) (sym (steps-more history n e)) (more-fits V eq under.entries under.budget steps (n, step) s.legal.fits (subst (λ (z : State K V). IsFit z step) s.entries fit));
             keys = subst (λ (h : History (Step K V)). All (λ (e : ℕ × Step K V). IsOfShard meaning under e.1) h) (sym (steps-more history n e)) (All-push (λ (e : ℕ × Step K V). IsOfShard meaning under e.1) steps (n, step) s.legal.keys named);
           } in
           stands-legal new (history ++ (n, e) ∷ []) legal
@@ -103,13 +108,15 @@ module _ {K V T : Type 0} (meaning : Meaning K V T) (under : Opening T) where
           → Stands eq meaning under kept history
           → IsEnabled eq kept.entries (pins_held eq (steps_in meaning under history) n) n (kind key)
           → IsOfShard meaning under (kind key)
+          → IsFit kept.entries (kind key)
           → new.entries ≡ state_after eq kept.entries n (kind key)
           → Stands eq meaning under new (history ++ (n, make k) ∷ [])
-      stands-key make kind is k key of kept new history n s enabled named after-is =
+      stands-key make kind is k key of kept new history n s enabled named fit after-is =
           let step : step_of meaning under (make k) ≡ kind key = is k ∙ ap kind of in
           stands-step kept new history n (make k) s
           (subst (λ (z : Step K V). IsEnabled eq kept.entries (pins_held eq (steps_in meaning under history) n) n z) (sym step) enabled)
           (subst (λ (z : Step K V). IsOfShard meaning under z) (sym step) named)
+          (subst (λ (z : Step K V). IsFit kept.entries z) (sym step) fit)
           (after-is ∙ ap (λ (z : Step K V). state_after eq kept.entries n z) (sym step))
 
       module _ (pass : ShardPassView K T) (turn : TurnView (Kept M K V T) (Entry K) (Opening T)) (t : IsTurnAfterTries (Stands eq meaning) under pass turn) where
@@ -152,29 +159,39 @@ module _ {K V T : Type 0} (meaning : Meaning K V T) (under : Opening T) where
               → (k : Snapshot K) (used key : K) → k.value ≡ used → used ≡ key
               → IsEnabled eq now.entries (pins_held eq (steps_in meaning under turn.list) turn.pass.number) turn.pass.number (kind key)
               → IsOfShard meaning under (kind key)
+              → IsFit now.entries (kind key)
               → (new : State K V) → new ≡ state_after eq now.entries turn.pass.number (kind used)
               → Stands eq meaning {M = M} under (record { entries = new }) (turn.list ++ (turn.pass.number, make k) ∷ [])
-          stands-entry make kind is k used key of e enabled named new after-is =
-              stands-key make kind is k key (of ∙ e) now (record { entries = new }) turn.list turn.pass.number here enabled named (after-is ∙ ap (λ (z : K). state_after eq now.entries turn.pass.number (kind z)) e)
+          stands-entry make kind is k used key of e enabled named fit new after-is =
+              stands-key make kind is k key (of ∙ e) now (record { entries = new }) turn.list turn.pass.number here enabled named fit (after-is ∙ ap (λ (z : K). state_after eq now.entries turn.pass.number (kind z)) e)
 
           pub stands-fill : (k : Snapshot K) (used key : K) → k.value ≡ used → used ≡ key → is_in meaning under key ≡ true → has_open eq (own_steps meaning under pass) key ≡ true
-              → (cost : ℕ) (value : V) → cost ≡ meaning.cost value → value ≡ value_under meaning under key
+              → (cost : ℕ) (value : V) → cost ≡ entry_cost meaning used value → value ≡ value_under meaning under key → can_fill now.entries cost ≡ true
               → (new : State K V) → new ≡ state_after eq now.entries turn.pass.number (machine.Fill used cost value)
               → Stands eq meaning {M = M} under (record { entries = new }) (turn.list ++ (turn.pass.number, Fill k) ∷ [])
-          stands-fill k used key of e named pending cost value priced made new after-is =
+          stands-fill k used key of e named pending cost value priced made room new after-is =
+              let dear : cost ≡ entry_cost meaning key (value_under meaning under key) = priced ∙ (ap (λ (v : V). entry_cost meaning used v) made ∙ ap (λ (z : K). entry_cost meaning z (value_under meaning under key)) e) in
               let right : value ≡ value_under meaning under used = made ∙ ap (value_under meaning under) (sym e) in
-              stands-entry Fill (λ z. machine.Fill z (meaning.cost (value_under meaning under z)) (value_under meaning under z)) (λ k. refl) k used key of e (flies key key refl pending) named new
-              (after-is ∙ (ap (λ (c : ℕ). state_after eq now.entries turn.pass.number (machine.Fill used c value)) (priced ∙ ap meaning.cost right) ∙ ap (λ (v : V). state_after eq now.entries turn.pass.number (machine.Fill used (meaning.cost (value_under meaning under used)) v)) right))
+              stands-entry Fill (λ z. machine.Fill z (entry_cost meaning z (value_under meaning under z)) (value_under meaning under z)) (λ k. refl) k used key of e (flies key key refl pending) named (subst (λ (n : ℕ). can_fill now.entries n ≡ true) dear room) new
+              (after-is ∙ (ap (λ (c : ℕ). state_after eq now.entries turn.pass.number (machine.Fill used c value)) (priced ∙ ap (λ (v : V). entry_cost meaning used v) right) ∙ ap (λ (v : V). state_after eq now.entries turn.pass.number (machine.Fill used (entry_cost meaning used (value_under meaning under used)) v)) right))
 
           pub stands-fail : (k : Snapshot K) (used key : K) → k.value ≡ used → used ≡ key → is_in meaning under key ≡ true → has_open eq (own_steps meaning under pass) key ≡ true
               → (new : State K V) → new ≡ state_after eq now.entries turn.pass.number (machine.Fail used)
               → Stands eq meaning {M = M} under (record { entries = new }) (turn.list ++ (turn.pass.number, Fail k) ∷ [])
-          stands-fail k used key of e named pending = stands-entry Fail machine.Fail (λ k. refl) k used key of e (flies key key refl pending) named
+          stands-fail k used key of e named pending = stands-entry Fail machine.Fail (λ k. refl) k used key of e (flies key key refl pending) named tt
+
+          pub stands-spill : (k : Snapshot K) (key : K) → k.value ≡ key → is_in meaning under key ≡ true → has_open eq (own_steps meaning under pass) key ≡ true
+              → (cost : ℕ) → cost ≡ entry_cost meaning key (value_under meaning under key) → can_fill now.entries cost ≡ false
+              → (new : State K V) → new ≡ state_after eq now.entries turn.pass.number (machine.Fail key)
+              → Stands eq meaning {M = M} under (record { entries = new }) (turn.list ++ (turn.pass.number, Spill k) ∷ [])
+          stands-spill k key of named pending cost priced full new after-is =
+              stands-entry Spill (λ z. machine.Spill z (entry_cost meaning z (value_under meaning under z))) (λ k. refl) k key key of refl
+              (flies key key refl pending, subst (λ (n : ℕ). can_fill now.entries n ≡ false) priced full) named tt new after-is
 
           pub stands-unpin : (k : Snapshot K) (used key : K) → k.value ≡ used → used ≡ key → is_in meaning under key ≡ true → 1 ≤ pins_left eq (own_steps meaning under pass) key
               → (new : State K V) → new ≡ state_after eq now.entries turn.pass.number (machine.Unpin used)
               → Stands eq meaning {M = M} under (record { entries = new }) (turn.list ++ (turn.pass.number, Unpin k) ∷ [])
-          stands-unpin k used key of e named some = stands-entry Unpin machine.Unpin (λ k. refl) k used key of e (held-there key some) named
+          stands-unpin k used key of e named some = stands-entry Unpin machine.Unpin (λ k. refl) k used key of e (held-there key some) named tt
 
           -- a value that is as it was
           pub stands-unchanged : (new : State K V) → new ≡ now.entries → Stands eq meaning {M = M} under (record { entries = new }) turn.list
@@ -186,7 +203,7 @@ module _ {K V T : Type 0} (meaning : Meaning K V T) (under : Opening T) where
               → ask_answer eq now.entries key ≡ Some answer
               → (new : State K V) → new ≡ state_after eq now.entries turn.pass.number (machine.Ask key answer)
               → Stands eq meaning {M = M} under (record { entries = new }) (turn.list ++ (turn.pass.number, make k) ∷ [])
-          stands-asked make answer is k key of named answered new after-is = stands-entry make (λ z. machine.Ask z answer) is k key key of refl answered named new after-is
+          stands-asked make answer is k key of named answered new after-is = stands-entry make (λ z. machine.Ask z answer) is k key key of refl answered named tt new after-is
 
           -- the value that a hit finds
           pub hit-value : (key : K) (value : V) → ready_value (status_of eq now.entries key) ≡ Some value → value ≡ value_under meaning under key
@@ -195,7 +212,16 @@ module _ {K V T : Type 0} (meaning : Meaning K V T) (under : Opening T) where
           pub stands-limits : (entries budget : ℕ) → 1 ≤ entries → entries ≤ max_entries → budget ≤ max_budget
               → (new : State K V) → new ≡ state_after eq now.entries turn.pass.number (machine.Limits entries budget)
               → Stands eq meaning {M = M} under (record { entries = new }) (turn.list ++ (turn.pass.number, Limits entries budget) ∷ [])
-          stands-limits entries budget least most budgeted new after-is = stands-step now (record { entries = new }) turn.list turn.pass.number (Limits entries budget) here (least, most, budgeted) tt after-is
+          stands-limits entries budget least most budgeted new after-is = stands-step now (record { entries = new }) turn.list turn.pass.number (Limits entries budget) here (least, most, budgeted) tt tt after-is
+
+          pub stands-hard : (hard : Option HardLimit) → IsHardLimit hard → holds_all hard now.entries.entries ≡ true
+              → (new : State K V) → new ≡ state_after eq now.entries turn.pass.number (machine.Hard hard)
+              → Stands eq meaning {M = M} under (record { entries = new }) (turn.list ++ (turn.pass.number, Hard hard) ∷ [])
+          stands-hard hard bounds holds new after-is = stands-step now (record { entries = new }) turn.list turn.pass.number (Hard hard) here (bounds, holds) tt tt after-is
+
+          -- what a turn that gives no entry shows is its value
+          pub shown-here : (after : ShardPassView K T) → after.seen ≡ turn.list → now.entries ≡ left_by eq meaning under after.seen
+          shown-here after seen = here.entries ∙ ap (left_by eq meaning under) (sym seen)
 
         -- a turn with its give
         pub gives-turn : (shard : ShardView T) (after : ShardPassView K T) (entry : Option (Entry K)) → shard.tag ≡ under

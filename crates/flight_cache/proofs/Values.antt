@@ -6,21 +6,23 @@ use Rattle.evict_core.specs.Machine.{Status, Flying, Ready, State, Step, status_
 use Rattle.evict_core.specs.Machine as machine
 use Rattle.evict_core.specs.Asked.{ready_value}
 use Rattle.evict_core.proofs.LegalLemmas.{ready-was-filled}
-use Rattle.flight_cache.specs.Meaning.{Meaning}
+use Rattle.flight_cache.specs.Meaning.{Meaning, entry_cost}
 use Rattle.flight_cache.specs.declared.kept.Opening.{Opening}
 use Rattle.flight_cache.specs.declared.kept.Entry.{Entry}
-use Rattle.flight_cache.specs.declared.kept.Entry.TheVariants.{Hit, Claim, Crowded, PinAll, Fill, Fail, Unpin, Limits}
+use Rattle.flight_cache.specs.declared.kept.Entry.TheVariants.{Hit, Claim, Crowded, PinAll, Fill, Fail, Spill, Unpin, Limits, Hard}
 use Rattle.flight_cache.specs.Histories.{value_under, step_of, steps_in, IsLegalUnder, left_by, AreMade}
 
 module _ {K V T : Type 0} (meaning : Meaning K V T) (under : Opening T) where
   -- what a fill puts is the value of its key, at its cost
   abbrev FillsRight : Step K V → Type 0
-  FillsRight (machine.Fill k cost value) = (value ≡ value_under meaning under k) × (cost ≡ meaning.cost value)
+  FillsRight (machine.Fill k cost value) = (value ≡ value_under meaning under k) × (cost ≡ entry_cost meaning k value)
   FillsRight (machine.Ask k answer) = Unit {0}
   FillsRight (machine.PinAll ks) = Unit {0}
   FillsRight (machine.Fail k) = Unit {0}
+  FillsRight (machine.Spill k cost) = Unit {0}
   FillsRight (machine.Unpin k) = Unit {0}
   FillsRight (machine.Limits entries budget) = Unit {0}
+  FillsRight (machine.Hard hard) = Unit {0}
 
   right-step : (e : Entry K) → FillsRight (step_of meaning under e)
   right-step (Hit k) = tt
@@ -29,8 +31,10 @@ module _ {K V T : Type 0} (meaning : Meaning K V T) (under : Opening T) where
   right-step (PinAll ks) = tt
   right-step (Fill k) = (refl, refl)
   right-step (Fail k) = tt
+  right-step (Spill k) = tt
   right-step (Unpin k) = tt
   right-step (Limits entries budget) = tt
+  right-step (Hard hard) = tt
 
   right-in : (history : History (Entry K)) (front back : History (Step K V)) (number : ℕ) (step : Step K V) → steps_in meaning under history ≡ front ++ (number, step) ∷ back → FillsRight step
   right-in [] [] back number step is = cc
@@ -47,7 +51,7 @@ module _ {K V T : Type 0} (meaning : Meaning K V T) (under : Opening T) where
     made-when-legal history legal key pins cost value is =
         let f = ready-was-filled V eq laws under.entries under.budget (steps_in meaning under history) legal.legal key pins cost value is in
         let right = right-in history f.front f.back f.number (machine.Fill f.key cost value) f.is in
-        (right.0 ∙ ap (value_under meaning under) (sym (same key f.key f.same)), right.1)
+        (right.0 ∙ ap (value_under meaning under) (sym (same key f.key f.same)), right.1 ∙ ap (λ (k : K). entry_cost meaning k value) (sym (same key f.key f.same)))
 
     -- the value that a key finds is its own
     pub value-found : (s : State K V) → AreMade eq meaning under s → (key : K) (value : V) → ready_value (status_of eq s key) ≡ Some value → value ≡ value_under meaning under key

@@ -2,14 +2,15 @@
 use Rattle.std.proofs.Common.{◌≡◌, ℕ, zero, suc, ◌<◌, ◌≤◌, ◌&&◌, ◌||◌, not, Bool, true, false, List, ◌∷◌, [], ◌++◌, map, refl, sym, ap, ◌∙◌, subst, arith}
 use Rattle.std.specs.Cmp.{IsEquivalence}
 use Rattle.std.proofs.lemmas.List.{append-nil}
+use Rattle.atomic_table.specs.Seated.{TableId}
 use Rattle.turn_cell.specs.Passes.{Follows, mine, split_pass, new_pass, joined_pass}
 use Rattle.turn_cell.proofs.Passes.{Follows_trans}
-use Rattle.evict_core.specs.Machine.{Step, Hit, Claim, Crowded, Ask, Fill, Fail, Unpin}
+use Rattle.evict_core.specs.Machine.{Step, Hit, Claim, Crowded, Ask, Fill, Fail, Spill, Unpin}
 use Rattle.evict_core.specs.History.{pins_left, has_open}
 use Rattle.flight_cache.specs.Meaning.{Meaning, shard_of, shard_count}
 use Rattle.flight_cache.specs.Histories.{step_of}
 use Rattle.flight_cache.specs.Calls.{ShardView, ShardPassView, GivesSteps, HasGivenBack, own_steps}
-use Rattle.flight_cache.specs.Shards.{Shards, CacheView, CachePassView, IsCacheOf, GivesBack, at, with_at, each, both}
+use Rattle.flight_cache.specs.Shards.{Shards, CacheView, CachePassView, IsCacheOf, EachHasGivenBack, GivesBack, HasLowerOpen, at, with_at, each, both, IsHome}
 use Rattle.flight_cache.specs.declared.kept.Entry.{Entry}
 use Rattle.flight_cache.proofs.Rows.{gives_follow, call_is_later, stays_of_cache, one_gives_back}
 use Rattle.flight_cache.proofs.Four.{at-each}
@@ -27,6 +28,9 @@ module _ {X : Type 0} where
   with-after : (p q r : Shards X) (n : ℕ) → n < shard_count → q ≡ with_at p n (at q n) → r ≡ with_at q n (at r n) → r ≡ with_at p n (at r n)
   with-after p q r n lt one two = two ∙ (ap (λ (z : Shards X). with_at z n (at r n)) one ∙ with-twice p n lt (at q n) (at r n))
 
+false-is-true : false ≡ true → ⊥
+false-is-true e = cc
+
 -- a claim that a fill or a fail closes
 closed : (b was after last : Bool) → was ≡ false → after ≡ (b || was) → last ≡ (not b && after) → last ≡ false
 closed true was after last none opens closes = closes
@@ -43,6 +47,12 @@ module _ {K V T : Type 0} (eq : K → K → Bool) (meaning : Meaning K V T) (sha
   fail-back asks fails = record {
     pins = λ k. let none = before.pins k in let more = asks.pins k in let less = fails.pins k in omega arith;
     claims = λ k. closed (eq k key) _ _ _ (before.claims k) (asks.claims k) (fails.claims k);
+  }
+
+  spill-back : (cost : ℕ) → GivesSteps eq meaning shard p q (Ask key Claim ∷ []) → GivesSteps eq meaning shard q r (Spill key cost ∷ []) → HasGivenBack eq meaning shard r
+  spill-back cost asks spills = record {
+    pins = λ k. let none = before.pins k in let more = asks.pins k in let less = spills.pins k in omega arith;
+    claims = λ k. closed (eq k key) _ _ _ (before.claims k) (asks.claims k) (spills.claims k);
   }
 
   fill-back : (cost : ℕ) (value : V) → GivesSteps eq meaning shard p q (Ask key Claim ∷ []) → GivesSteps eq meaning shard q r (Fill key cost value ∷ []) → GivesSteps eq meaning shard r s (Unpin key ∷ []) → HasGivenBack eq meaning shard s
@@ -132,6 +142,14 @@ module _ {K V T : Type 0} (eq : K → K → Bool) (laws : IsEquivalence eq) (mea
       after-calls n (below-four (meaning.numbers key)) p r all.0.0 of all.0.1 all.1
       (λ before. fail-back eq meaning (at cache.shards n) (at p n) before key (at q n) (at r n) (at r n) asks.0 d.0)
 
+  pub after-spill : (key used : K) (cost : ℕ) (p q r : CachePassView K T) → used ≡ key → IsCacheOf cache p → Calls key p q (Ask key Claim ∷ []) → Calls used q r (Spill used cost ∷ []) → GivesBack eq meaning cache p r
+  after-spill key used cost p q r is of asks spills =
+      let n = shard_of (meaning.numbers key) in
+      let d = subst (λ (k : K). Calls k q r (Spill k cost ∷ [])) is spills in
+      let all = two-calls key p q r (Ask key Claim ∷ []) (Spill key cost ∷ []) asks d in
+      after-calls n (below-four (meaning.numbers key)) p r all.0.0 of all.0.1 all.1
+      (λ before. spill-back eq meaning (at cache.shards n) (at p n) before key (at q n) (at r n) (at r n) cost asks.0 d.0)
+
   pub after-fill : (key used held : K) (cost : ℕ) (value : V) (p q r s : CachePassView K T) → used ≡ key → held ≡ key → IsCacheOf cache p → Calls key p q (Ask key Claim ∷ []) → Calls used q r (Fill used cost value ∷ []) → Calls held r s (Unpin held ∷ [])
       → GivesBack eq meaning cache p s
   after-fill key used held cost value p q r s is same of asks fills unpins =
@@ -181,3 +199,16 @@ module _ {K T : Type 0} (cache : CacheView T) (p : CachePassView K T) (of : IsCa
     third = record { id = of.third.id; tagged = of.third.tagged };
     fourth = record { id = of.fourth.id; tagged = of.fourth.tagged };
   })
+
+module _ {K V T : Type 0} (eq : K → K → Bool) (meaning : Meaning K V T) (cache : CacheView T) where
+  -- who has nothing to give back may wait for whatever key
+  pub given-lower : (p : CachePassView K T) (key : K) → EachHasGivenBack eq meaning cache.shards p → HasLowerOpen eq meaning cache p key
+  given-lower p key given = λ other claimed.
+      let none = at-each (λ (s : ShardView T) (a b : ShardPassView K T). has_open eq (own_steps meaning s.tag b) other ≡ false) cache.shards p p
+      (given.first.claims other) (given.second.claims other) (given.third.claims other) (given.fourth.claims other)
+      (shard_of (meaning.numbers other)) (below-four (meaning.numbers other)) in
+      absurd {A = meaning.rank other < meaning.rank key} (false-is-true (sym none ∙ claimed))
+
+-- a pin or ticket of the key that was asked for
+pub home-by : {K V T : Type 0} (meaning : Meaning K V T) (cache : CacheView T) (key k : K) (cell : TableId) → k ≡ key → cell ≡ (at cache.shards (shard_of (meaning.numbers key))).id → IsHome meaning cache k cell
+home-by {K} meaning cache key k cell same is = is ∙ ap (λ (z : K). (at cache.shards (shard_of (meaning.numbers z))).id) (sym same)

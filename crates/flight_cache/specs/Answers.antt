@@ -1,7 +1,8 @@
 -- Public: what an ask gives, by its answer.
 use Rattle.std.specs.Prelude.{◌≡◌, ◌∷◌, [], ◌⊎◌, Bool, true, false, Option, Some, None}
-use Rattle.evict_core.specs.Machine.{Answer, Ask, ask_answer}
+use Rattle.evict_core.specs.Machine.{Answer, Ask, Hard, ask_answer, holds_all}
 use Rattle.evict_core.specs.Machine as machine
+use Rattle.evict_core.specs.declared.hard_limit.HardLimit.{HardLimit}
 use Rattle.flight_cache.specs.Meaning.{Meaning}
 use Rattle.flight_cache.specs.Histories.{left_by, value_under}
 use Rattle.flight_cache.specs.Calls.{ShardView, ShardPassView, GivesSteps}
@@ -41,3 +42,16 @@ module _ {K V T : Type 0} (eq : K → K → Bool) (meaning : Meaning K V T) (sha
   IsAsked {M} (Make (Some ticket)) = IsAskedAtTurn {M = M} (Make (Some ticket))
   IsAsked {M} (Make None) = IsAskedAtTurn {M = M} (Make None)
   IsAsked {M} OutOfMemory = (after ≡ pass) ⊎ IsShortAsk
+
+module _ {K V T : Type 0} (eq : K → K → Bool) (meaning : Meaning K V T) (shard : ShardView T) (pass : ShardPassView K T) (hard : Option HardLimit) (after : ShardPassView K T) where
+  -- the hard limit was set, or the turn showed entries that pass it, and nothing was done
+  abbrev pub IsHardSet : Bool → Type 0
+  IsHardSet true = GivesSteps eq meaning shard pass after (Hard hard ∷ [])
+  IsHardSet false = GivesSteps eq meaning shard pass after [] × (holds_all hard (left_by eq meaning shard.tag after.seen).entries ≡ false)
+
+-- what an ask gives is of the shard
+abbrev pub IsHomeAsk : {M K V T : Type 0} → ShardView T → Asked M K V T → Type 0
+IsHomeAsk shard (Hit pin) = pin.cell ≡ shard.id
+IsHomeAsk shard (Make (Some ticket)) = ticket.cell ≡ shard.id
+IsHomeAsk shard (Make None) = Unit {0}
+IsHomeAsk shard OutOfMemory = Unit {0}

@@ -1,5 +1,6 @@
 -- Public: what callers see of pins, tickets and passes, and what a call adds to the history of a shard.
 use Rattle.std.specs.Prelude.{◌≡◌, ◌+◌, Bool, false, List, [], map, Option, Some, None}
+use Rattle.atomic_table.specs.Seated.{TableId}
 use Rattle.turn_cell.specs.History.{History, entry_list}
 use Rattle.turn_cell.specs.Passes.{CellView, PassView, Follows, TakesTurn, mine}
 use Rattle.evict_core.specs.Machine.{Step}
@@ -9,13 +10,15 @@ use Rattle.flight_cache.specs.Histories.{step_of, IsLegalUnder}
 use Rattle.flight_cache.specs.declared.kept.Opening.{Opening}
 use Rattle.flight_cache.specs.declared.kept.Entry.{Entry}
 
--- a pin: its key, and the value that it holds
+-- a pin: its key, the value that it holds, and the cell of the shard that it is of
 pub record PinView (K V : Type 0) : Type 0 where
   pub key : K
   pub value : V
+  pub cell : TableId
 
 pub record TicketView (K : Type 0) : Type 0 where
   pub key : K
+  pub cell : TableId
 
 -- a shard's cell, and a pass of it
 abbrev pub ShardView : Type 0 → Type 0

@@ -1,7 +1,7 @@
 -- Inner: what a call that pins several keys holds of each shard.
 use Rattle.std.specs.Prelude.{◌≡◌, ℕ, ◌+◌, ◌≤◌, ◌⊎◌, slice_get, Bool, true, false, List, [], ◌∷◌, ◌++◌, take, Option, Some, None}
 use Rattle.turn_cell.specs.Passes.{IsOf, IsTurnOf}
-use Rattle.evict_core.specs.Machine.{status_of, max_pins}
+use Rattle.evict_core.specs.Machine.{status_of, maker_in, max_pins}
 use Rattle.evict_core.specs.History.{times_named}
 use Rattle.evict_core.specs.Asked.{ready_pins, ready_value}
 use Rattle.evict_core.specs.Laws.{ArePinnable}
@@ -12,7 +12,7 @@ use Rattle.flight_cache.specs.Shards.{Shards, CacheView, CachePassView, AreAlike
 use Rattle.flight_cache.specs.Pinning.{is_named, keys_in, TurnsWith}
 use Rattle.flight_cache.specs.declared.kept.Entry.TheVariants.{PinAll}
 use Rattle.flight_cache.specs.declared.pinning.PinRefusal.{PinRefusal}
-use Rattle.flight_cache.specs.declared.pinning.PinRefusal.TheVariants.{TurnOut, NotReady, PinsFull, OutOfMemory}
+use Rattle.flight_cache.specs.declared.pinning.PinRefusal.TheVariants.{TurnOut, NotReady, Making, PinsFull, OutOfMemory}
 use Rattle.flight_cache.specs.declared.holds.Hold.{Hold}
 use Rattle.flight_cache.specs.declared.holds.Hold.TheVariants.{Turn, Pass}
 use Rattle.flight_cache.specs.declared.holds.Holds.{Holds}
@@ -27,6 +27,11 @@ IsLost shards shard pass after = (is_named shards shard.tag.shard ≡ true) × (
 abbrev pub IsOneLost : {K V T : Type 0} → (K → K → Bool) → Meaning K V T → List ℕ → ShardView T → ShardView T → ShardPassView K T → ShardPassView K T → ShardPassView K T → ShardPassView K T → Type 0
 IsOneLost eq meaning shards shard next pass next_pass after next_after = (IsLost shards shard pass after × (next_after ≡ next_pass)) ⊎ (TurnsWith eq meaning shards shard pass after [] × IsLost shards next next_pass next_after)
 
+-- a key without pins is being made, or nobody makes it
+abbrev pub unready : ℕ → Option ℕ → PinRefusal
+unready i None = NotReady i
+unready i (Some maker) = Making i
+
 module _ {M K V T : Type 0} where
   -- the pass, once what is held is given back without an entry
   abbrev pub pass_back : Hold M K V T → ShardPassView K T
@@ -40,10 +45,14 @@ module _ {M K V T : Type 0} where
   four_of holds = record { first = holds.first; second = holds.second; third = holds.third; fourth = holds.fourth }
 
   module _ (eq : K → K → Bool) where
-    -- the pins, and the value, of a key whose turn is held
+    -- the pins, the maker and the value of a key whose turn is held
     abbrev pub pins_at : Hold M K V T → K → Option ℕ
     pins_at (Turn turn) key = ready_pins (status_of eq turn.value.entries key)
     pins_at (Pass pass) key = None
+
+    abbrev pub maker_at : Hold M K V T → K → Option ℕ
+    maker_at (Turn turn) key = maker_in (status_of eq turn.value.entries key)
+    maker_at (Pass pass) key = None
 
     abbrev pub held_value : Hold M K V T → K → Option V
     held_value (Turn turn) key = ready_value (status_of eq turn.value.entries key)
@@ -100,6 +109,7 @@ module _ {M K V T : Type 0} where
     -- what is held says of the first key that can't be pinned
     abbrev pub IsRefusalOf : CacheView T → List K → Holds M K V T → PinRefusal → Type 0
     IsRefusalOf cache keys holds TurnOut = ⊥
-    IsRefusalOf cache keys holds (NotReady i) = (k : K) × (slice_get keys i ≡ Some k) × CanPinAll cache (take i keys) holds × (pins_at eq (at (four_of holds) (shard_of (meaning.numbers k))) k ≡ None)
+    IsRefusalOf cache keys holds (NotReady i) = (k : K) × (slice_get keys i ≡ Some k) × CanPinAll cache (take i keys) holds × (pins_at eq (at (four_of holds) (shard_of (meaning.numbers k))) k ≡ None) × (maker_at eq (at (four_of holds) (shard_of (meaning.numbers k))) k ≡ None)
+    IsRefusalOf cache keys holds (Making i) = (k : K) × (maker : ℕ) × (slice_get keys i ≡ Some k) × CanPinAll cache (take i keys) holds × (maker_at eq (at (four_of holds) (shard_of (meaning.numbers k))) k ≡ Some maker)
     IsRefusalOf cache keys holds (PinsFull i) = (k : K) × (pins : ℕ) × (slice_get keys i ≡ Some k) × CanPinAll cache (take i keys) holds × (pins_at eq (at (four_of holds) (shard_of (meaning.numbers k))) k ≡ Some pins) × (max_pins ≤ pins + times_named eq k (take i keys))
     IsRefusalOf cache keys holds OutOfMemory = ⊥

@@ -1,8 +1,9 @@
 -- Public: what holds of every history that a shard can have, of entries that stand for one, and what calls make of a pass.
-use Rattle.std.specs.Prelude.{◌≡◌, ℕ, ◌+◌, ◌<◌, ◌≤◌, Bool, true, false, ◌⊎◌, ◌↔◌, List, [], ◌∷◌, ◌++◌, length, map, Some, All, Contains}
+use Rattle.std.specs.Prelude.{◌≡◌, ℕ, ◌+◌, ◌*◌, ◌<◌, ◌≤◌, Bool, true, false, ◌⊎◌, ◌↔◌, List, [], ◌∷◌, ◌++◌, length, map, Option, Some, None, All, Contains}
 use Rattle.turn_cell.specs.History.{History, IsBelow, entries_of, numbers_of}
 use Rattle.turn_cell.specs.Passes.{Follows, Extends, IsWholePass, IsWholeBut, first_pass, split_pass, new_pass, joined_pass}
-use Rattle.evict_core.specs.Machine.{Answer, Hit, Claim, Ask, ask_answer, PinAll, Fill, Fail, Unpin, Limits, Step, unpinned, has_idle, maker_in, pins_in, status_of}
+use Rattle.evict_core.specs.Machine.{Answer, Hit, Claim, Ask, ask_answer, PinAll, Fill, Fail, Spill, Unpin, Limits, Hard, can_fill, Step, Ready, unpinned, pinned, flying, has_idle, maker_in, pins_in, status_of}
+use Rattle.evict_core.specs.declared.hard_limit.HardLimit.{HardLimit}
 use Rattle.evict_core.specs.History.{replay, pins_taken, pins_given, pins_left, held_below, has_open, times_named, is_evicted}
 use Rattle.evict_core.specs.Laws.{IsLostWithin, IsEvictedWithin}
 use Rattle.flight_cache.specs.Meaning.{Meaning, shard_of}
@@ -26,6 +27,12 @@ module _ {K V T : Type 0} (M : Type 0) (eq : K → K → Bool) (meaning : Meanin
   abbrev pub ShardsStayInLimit : Type 0
   ShardsStayInLimit = (opening : Opening T) (kept : Kept M K V T) (history : History (Entry K)) → Stands eq meaning opening kept history
       → kept.entries.limit < length kept.entries.entries → has_idle kept.entries.entries ≡ false
+
+  -- where a hard limit is set, no pinned, unpinned and unmade values pass it together
+  abbrev pub ShardsStayInHardLimit : Type 0
+  ShardsStayInHardLimit = (opening : Opening T) (kept : Kept M K V T) (history : History (Entry K)) → Stands eq meaning opening kept history
+      → (hard : HardLimit) → kept.entries.hard ≡ Some hard
+      → unpinned kept.entries.entries + pinned kept.entries.entries + hard.making * flying kept.entries.entries ≤ hard.cost
 
 module _ {K V T : Type 0} (eq : K → K → Bool) (meaning : Meaning K V T) where
   -- between two claims of a key stands its fail or an eviction of it
@@ -67,6 +74,17 @@ module _ {K V T : Type 0} (eq : K → K → Bool) (meaning : Meaning K V T) wher
   HistoryInBudget = (opening : Opening T) (history : History (Entry K)) → IsLegalUnder eq meaning opening history
       → unpinned (left_by eq meaning opening history).entries ≤ (left_by eq meaning opening history).budget
 
+  abbrev pub HistoryInHardLimit : Type 0
+  HistoryInHardLimit = (opening : Opening T) (history : History (Entry K)) → IsLegalUnder eq meaning opening history
+      → (hard : HardLimit) → (left_by eq meaning opening history).hard ≡ Some hard
+      → unpinned (left_by eq meaning opening history).entries + pinned (left_by eq meaning opening history).entries + hard.making * flying (left_by eq meaning opening history).entries ≤ hard.cost
+
+  -- an entry that no pin holds costs at most the budget: what costs more is never kept unpinned
+  abbrev pub IdleInBudget : Type 0
+  IdleInBudget = (opening : Opening T) (history : History (Entry K)) → IsLegalUnder eq meaning opening history
+      → (key : K) (cost : ℕ) (value : V) → status_of eq (left_by eq meaning opening history) key ≡ Some (Ready 0 cost value)
+      → cost ≤ (left_by eq meaning opening history).budget
+
   abbrev pub HistoryInLimit : Type 0
   HistoryInLimit = (opening : Opening T) (history : History (Entry K)) → IsLegalUnder eq meaning opening history
       → (left_by eq meaning opening history).limit < length (left_by eq meaning opening history).entries → has_idle (left_by eq meaning opening history).entries ≡ false
@@ -77,8 +95,21 @@ SetsNoLimits (Ask key answer) = Unit {0}
 SetsNoLimits (PinAll keys) = Unit {0}
 SetsNoLimits (Fill key cost value) = Unit {0}
 SetsNoLimits (Fail key) = Unit {0}
+SetsNoLimits (Spill key cost) = Unit {0}
 SetsNoLimits (Unpin key) = Unit {0}
 SetsNoLimits (Limits entries budget) = ⊥
+SetsNoLimits (Hard hard) = Unit {0}
+
+-- the step sets no hard limit
+abbrev pub SetsNoHard : {K V : Type 0} → Step K V → Type 0
+SetsNoHard (Ask key answer) = Unit {0}
+SetsNoHard (PinAll keys) = Unit {0}
+SetsNoHard (Fill key cost value) = Unit {0}
+SetsNoHard (Fail key) = Unit {0}
+SetsNoHard (Spill key cost) = Unit {0}
+SetsNoHard (Unpin key) = Unit {0}
+SetsNoHard (Limits entries budget) = Unit {0}
+SetsNoHard (Hard hard) = ⊥
 
 module _ {K V T : Type 0} (eq : K → K → Bool) (meaning : Meaning K V T) where
   -- the limits that a history leaves are those of the opening where no step of it sets any
@@ -91,6 +122,28 @@ module _ {K V T : Type 0} (eq : K → K → Bool) (meaning : Meaning K V T) wher
   LimitsAreSet = (opening : Opening T) (history : History (Entry K)) (before later : History (Step K V)) (m entries budget : ℕ)
       → steps_in meaning opening history ≡ before ++ (m, Limits entries budget) ∷ later → All (λ e. SetsNoLimits e.1) later
       → ((left_by eq meaning opening history).limit ≡ entries) × ((left_by eq meaning opening history).budget ≡ budget)
+
+module _ {K V T : Type 0} (eq : K → K → Bool) (meaning : Meaning K V T) where
+  -- there is no hard limit where no step of the history sets one
+  abbrev pub HardIsUnset : Type 0
+  HardIsUnset = (opening : Opening T) (history : History (Entry K)) → All (λ e. SetsNoHard e.1) (steps_in meaning opening history)
+      → (left_by eq meaning opening history).hard ≡ None
+
+  -- and else that of the last step that does
+  abbrev pub HardIsSet : Type 0
+  HardIsSet = (opening : Opening T) (history : History (Entry K)) (before later : History (Step K V)) (m : ℕ) (hard : Option HardLimit)
+      → steps_in meaning opening history ≡ before ++ (m, Hard hard) ∷ later → All (λ e. SetsNoHard e.1) later
+      → (left_by eq meaning opening history).hard ≡ hard
+
+  -- so where none was set no value is spilled
+  abbrev pub NoneIsSpilled : Type 0
+  NoneIsSpilled = (opening : Opening T) (before later : History (Entry K)) (e : ℕ × Entry K) (key : K) (cost : ℕ) → IsLegalUnder eq meaning opening (before ++ e ∷ later)
+      → step_of meaning opening e.1 ≡ Spill key cost → ¬ All (λ e. SetsNoHard e.1) (steps_in meaning opening before)
+
+  -- a value is spilled where the hard limit has no room for its fill
+  abbrev pub SpillsHaveNoRoom : Type 0
+  SpillsHaveNoRoom = (shard : ShardView T) (pass after : ShardPassView K T) (key : K) (cost : ℕ) → (gives : GivesSteps eq meaning shard pass after (Spill key cost ∷ []))
+      → can_fill (left_by eq meaning shard.tag gives.takes.list) cost ≡ false
 
 -- the parts of a limit are the whole
 abbrev pub PartsAddUp : Type 0

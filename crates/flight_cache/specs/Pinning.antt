@@ -2,7 +2,7 @@
 use Rattle.std.specs.Prelude.{◌≡◌, ◌⊎◌, ℕ, ◌+◌, ◌<◌, ◌≤◌, ◌==◌, nat_lt, slice_get, Bool, true, MatchBool, List, [], ◌∷◌, map, filter, take, Option, Some, None}
 use Rattle.std.specs.List.{list_any}
 use Rattle.turn_cell.specs.Passes.{Follows}
-use Rattle.evict_core.specs.Machine.{State, Step, PinAll, status_of, max_pins}
+use Rattle.evict_core.specs.Machine.{State, Step, PinAll, status_of, maker_in, max_pins}
 use Rattle.evict_core.specs.History.{times_named}
 use Rattle.evict_core.specs.Asked.{ready_pins}
 use Rattle.evict_core.specs.Laws.{ArePinnable}
@@ -11,7 +11,7 @@ use Rattle.flight_cache.specs.Histories.{is_in, left_by}
 use Rattle.flight_cache.specs.Calls.{PinView, ShardView, ShardPassView, GivesSteps}
 use Rattle.flight_cache.specs.Shards.{CacheView, CachePassView, at}
 use Rattle.flight_cache.specs.declared.pinning.PinRefusal.{PinRefusal}
-use Rattle.flight_cache.specs.declared.pinning.PinRefusal.TheVariants.{TurnOut, NotReady, PinsFull, OutOfMemory}
+use Rattle.flight_cache.specs.declared.pinning.PinRefusal.TheVariants.{TurnOut, NotReady, Making, PinsFull, OutOfMemory}
 
 -- shard n is among these
 abbrev pub is_named : List ℕ → ℕ → Bool
@@ -72,7 +72,7 @@ pub record GivesNothing {K T : Type 0} (pass after : CachePassView K T) : Type 0
   pub fourth : Follows pass.fourth after.fourth []
 
 module _ {K V T : Type 0} (eq : K → K → Bool) (meaning : Meaning K V T) (cache : CacheView T) (pass : CachePassView K T) (keys : List K) (after : CachePassView K T) where
-  -- one pin-all in each shard that is named, of its keys in their order, and a pin with its value for each key
+  -- one pin-all in each shard that is named, of its keys in their order, and a pin of that shard with its value for each key
   pub record IsPinnedAll (pins : List (PinView K V)) : Type 0 where
     pub first : TurnsWith eq meaning (shards_of meaning keys) cache.shards.first pass.first after.first (PinAll (keys_in meaning cache.shards.first keys) ∷ [])
     pub second : TurnsWith eq meaning (shards_of meaning keys) cache.shards.second pass.second after.second (PinAll (keys_in meaning cache.shards.second keys) ∷ [])
@@ -80,6 +80,7 @@ module _ {K V T : Type 0} (eq : K → K → Bool) (meaning : Meaning K V T) (cac
     pub fourth : TurnsWith eq meaning (shards_of meaning keys) cache.shards.fourth pass.fourth after.fourth (PinAll (keys_in meaning cache.shards.fourth keys) ∷ [])
     pub keys_are : map (λ p. p.key) pins ≡ keys
     pub values_are : map (λ p. p.value) pins ≡ map (meaning.made cache.tag) keys
+    pub cells_are : map (λ p. p.cell) pins ≡ map (λ k. (at cache.shards (shard_of (meaning.numbers k))).id) keys
 
   -- the first i keys could be pinned, and the next is k
   abbrev pub IsStoppedAt : ℕ → K → Type 0
@@ -89,10 +90,15 @@ module _ {K V T : Type 0} (eq : K → K → Bool) (meaning : Meaning K V T) (cac
   abbrev pub pins_shown : K → Option ℕ
   pins_shown k = let n = shard_of (meaning.numbers k) in ready_pins (status_of eq (shown_state eq meaning (at cache.shards n) (at after n)) k)
 
-  -- The first named shard that is out lost a try; or the key at i isn't ready; or it has all its pins, once its places before i are counted.
+  -- who makes it there
+  abbrev pub maker_shown : K → Option ℕ
+  maker_shown k = let n = shard_of (meaning.numbers k) in maker_in (status_of eq (shown_state eq meaning (at cache.shards n) (at after n)) k)
+
+  -- The first named shard that is out lost a try; or the key at i isn't there; or it is being made; or it has all its pins, once its places before i are counted.
   -- Memory ran out before any turn was tried for, or where all the keys could have been pinned
   abbrev pub IsRefused : PinRefusal → Type 0
   IsRefused TurnOut = (n : ℕ) × IsTurnOut eq meaning cache pass (shards_of meaning keys) after n
-  IsRefused (NotReady i) = (k : K) × IsStoppedAt i k × (pins_shown k ≡ None)
+  IsRefused (NotReady i) = (k : K) × IsStoppedAt i k × (pins_shown k ≡ None) × (maker_shown k ≡ None)
+  IsRefused (Making i) = (k : K) × (maker : ℕ) × IsStoppedAt i k × (maker_shown k ≡ Some maker)
   IsRefused (PinsFull i) = (k : K) × (pins : ℕ) × IsStoppedAt i k × (pins_shown k ≡ Some pins) × (max_pins ≤ pins + times_named eq k (take i keys))
   IsRefused OutOfMemory = (after ≡ pass) ⊎ StopsBeforeAll eq meaning cache pass (shards_of meaning keys) after keys

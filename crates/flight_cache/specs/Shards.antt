@@ -1,12 +1,15 @@
 -- Public: four of a kind, one for each shard, and what is said of them together.
-use Rattle.std.specs.Prelude.{◌≡◌, ℕ, ◌+◌, ◌/◌, ◌≤◌, ◌==◌, if◌then◌else◌, min, Bool, List, []}
+use Rattle.std.specs.Prelude.{◌≡◌, ℕ, ◌+◌, ◌/◌, ◌<◌, ◌≤◌, ◌==◌, ◌&&◌, if◌then◌else◌, min, Bool, true, List, [], Option, Some, None}
+use Rattle.atomic_table.specs.Seated.{TableId}
 use Rattle.evict_core.specs.Machine.{Step, last_count}
-use Rattle.evict_core.specs.History.{times_named, pins_left}
+use Rattle.evict_core.specs.History.{times_named, pins_left, has_open}
 use Rattle.evict_core.specs.declared.counts.Counts.{Counts}
 use Rattle.evict_core.specs.declared.counts.Totals.{Totals}
+use Rattle.evict_core.specs.declared.hard_limit.HardLimit.{HardLimit}
 use Rattle.turn_cell.specs.History.{IsPrefix, IsBelow}
 use Rattle.turn_cell.specs.Passes.{IsOf, Extends}
 use Rattle.flight_cache.specs.Meaning.{Meaning, shard_count, shard_of}
+use Rattle.flight_cache.specs.Answers.{IsHardSet}
 use Rattle.flight_cache.specs.Histories.{IsLegalUnder}
 use Rattle.flight_cache.specs.Calls.{ShardView, ShardPassView, GivesSteps, HasGivenBack, own_steps}
 
@@ -34,6 +37,11 @@ both f four other = record { first = f four.first other.first; second = f four.s
 -- the part of shard n in a limit
 abbrev pub part : ℕ → ℕ → ℕ
 part limit n = (limit + n) / shard_count
+
+-- the part of shard n in a hard limit: of what entries may cost, and not of what one counts for that is being made
+abbrev pub hard_part : Option HardLimit → ℕ → Option HardLimit
+hard_part None n = None
+hard_part (Some hard) n = Some (record hard { cost = part hard.cost n })
 
 -- the fewest entries that a cache is opened with
 abbrev pub min_cache_entries : ℕ
@@ -88,6 +96,15 @@ module _ {K V T : Type 0} (eq : K → K → Bool) (meaning : Meaning K V T) wher
     pub third : GivesSteps eq meaning shards.third pass.third after.third (steps 2)
     pub fourth : GivesSteps eq meaning shards.fourth pass.fourth after.fourth (steps 3)
 
+  -- Each shard got its part of the hard limit, or its entries passed that part and it kept what it had. It is said whether all got it
+  pub record IsHardSetInEach (shards : Shards (ShardView T)) (pass : CachePassView K T) (hard : Option HardLimit) (after : CachePassView K T) (set : Bool) : Type 0 where
+    pub sets : Shards Bool
+    pub first : IsHardSet eq meaning shards.first pass.first (hard_part hard 0) after.first sets.first
+    pub second : IsHardSet eq meaning shards.second pass.second (hard_part hard 1) after.second sets.second
+    pub third : IsHardSet eq meaning shards.third pass.third (hard_part hard 2) after.third sets.third
+    pub fourth : IsHardSet eq meaning shards.fourth pass.fourth (hard_part hard 3) after.fourth sets.fourth
+    pub all : set ≡ (sets.first && sets.second && sets.third && sets.fourth)
+
   -- each shard's pass has nothing to give back
   pub record EachHasGivenBack (shards : Shards (ShardView T)) (pass : CachePassView K T) : Type 0 where
     pub first : HasGivenBack eq meaning shards.first pass.first
@@ -99,6 +116,11 @@ module _ {K V T : Type 0} (eq : K → K → Bool) (meaning : Meaning K V T) wher
   abbrev pub HoldsEach : CacheView T → CachePassView K T → List K → Type 0
   HoldsEach cache pass keys = (key : K) → let n = shard_of (meaning.numbers key) in
       times_named eq key keys ≤ pins_left eq (own_steps meaning (at cache.shards n).tag (at pass n)) key
+
+  -- The pass may wait for the key: each key whose claim it has open is of a lower rank. So whoever makes the key waits for none of these
+  abbrev pub HasLowerOpen : CacheView T → CachePassView K T → K → Type 0
+  HasLowerOpen cache pass key = (other : K) → let n = shard_of (meaning.numbers other) in
+      has_open eq (own_steps meaning (at cache.shards n).tag (at pass n)) other ≡ true → meaning.rank other < meaning.rank key
 
   -- the pass after calls: one of the cache with its number, and with nothing to give back where it had nothing before
   pub record GivesBack (cache : CacheView T) (pass after : CachePassView K T) : Type 0 where
@@ -136,6 +158,10 @@ module _ {K T : Type 0} where
     pub fourth : Extends pass.fourth pass.fourth.seen
 
 module _ {K V T : Type 0} (meaning : Meaning K V T) where
+  -- a key's pin or ticket with this cell is of the cache: of the shard that has the key
+  abbrev pub IsHome : CacheView T → K → TableId → Type 0
+  IsHome cache key cell = cell ≡ (at cache.shards (shard_of (meaning.numbers key))).id
+
   -- each shard's pass gave the same steps as before
   pub record EachGaveAsMuch (shards : Shards (ShardView T)) (pass after : CachePassView K T) : Type 0 where
     pub first : own_steps meaning shards.first.tag after.first ≡ own_steps meaning shards.first.tag pass.first

@@ -1,5 +1,7 @@
 //! Sleeping until a value of a shard was made.
 
+use crate::made::Made;
+use crate::shard::ShardPass;
 use std::sync::{Condvar, Mutex, Wait};
 
 /// How often a making of a shard has ended, and who sleeps until one does. It says nothing of any value: who wakes asks again.
@@ -30,8 +32,9 @@ impl Bell {
         self.ringing.notify_all();
     }
 
-    /// Sleeps as long as no making has ended since there were so many. Who counts before it asks misses none.
-    pub(crate) fn sleep<R: Wait>(&self, rt: &R, count: u64) {
+    /// Sleeps as long as no making has ended since there were so many. Who counts before it asks misses none. Who sleeps
+    /// shows its pass, which lies in the turn while that is out.
+    pub(crate) fn sleep<M: Made, R: Wait>(&self, rt: &R, _waiting: &ShardPass<M>, count: u64) {
         let _rung = self
             .ringing
             .wait_while(rt, self.rung.lock(rt), |rung| *rung == count);

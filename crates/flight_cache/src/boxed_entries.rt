@@ -1,15 +1,15 @@
 //! The entries of a shard in a place of their own.
 //!
 //! A turn takes the value behind it out of its slot and puts it back, so a pointer lies there in place of the entries.
-ghost use Rattle.std.specs.Prelude.{◌≡◌, ℕ, ◌≤◌, Some, IfOk, OnOk, OnErr, IsSome, option_map};
+ghost use Rattle.std.specs.Prelude.{◌≡◌, ℕ, ◌≤◌, true, false, Some, IfOk, OnOk, OnErr, IsSome, option_map};
 ghost use Rattle.std.specs.Arc.{arc_value};
-ghost use Rattle.evict_core.specs.Machine.{Hit, Claim, Ask as ask_step, Fill, Fail, Unpin, Limits, max_entries, max_budget, max_cost, status_of, pins_in};
-ghost use Rattle.evict_core.specs.Machine.{maker_in, ask_answer, state_after};
+ghost use Rattle.evict_core.specs.Machine.{Hit, Claim, Ask as ask_step, Fill, Fail, Unpin, Limits, Hard, max_entries, max_budget, max_cost, status_of, pins_in};
+ghost use Rattle.evict_core.specs.Machine.{IsHardLimit, can_fill, holds_all, maker_in, ask_answer, state_after};
 ghost use Rattle.evict_core.specs.History.{opening};
 ghost use Rattle.evict_core.specs.Asked.{IsAskAnswer, ready_pins, ready_value, totals_of};
 
 use ass_num::Mem;
-use evict_core::{Ask, Entries, Totals};
+use evict_core::{Ask, Entries, Freed, HardLimit, Totals};
 use std::alloc::Global;
 use std::hash::Hash;
 use std::marker::Model;
@@ -58,8 +58,8 @@ impl<K: Eq + Hash, V> BoxedEntries<K, V> {
     }
 
     /// Takes the leave to make the value of a key, which the number then does. Out of memory changes nothing here, but
-    /// the key is gone.
-    pub fn claim(&mut self, key: K, number: u32) -> Mem<()>
+    /// the key is gone. What is evicted for it goes into `freed`.
+    pub fn claim(&mut self, key: K, number: u32, freed: &mut Freed<K, V>) -> Mem<()>
     where
         K: Drop,
         V: Drop,
@@ -67,10 +67,19 @@ impl<K: Eq + Hash, V> BoxedEntries<K, V> {
         ensures ok { OnOk result (self.new ≡ state_after K.eq self.old number (ask_step key Claim)) }
         ensures err { OnErr result (self.new ≡ self.old) }
     {
-        self.inner.claim(key, number)
+        self.inner.claim(key, number, freed)
     }
 
-    /// The key that is being made has its value, with one pin, and is the most recent. The cost is at most 2^32.
+    /// Whether the hard limit, where one is set, has room for a key that is being made to be filled at this cost.
+    pub fn can_fill(&self, cost: u64) -> bool
+        requires { cost ≤ max_cost }
+        ensures { result ≡ can_fill self.now cost }
+    {
+        self.inner.can_fill(cost)
+    }
+
+    /// The key that is being made has its value, with one pin, and is the most recent. The cost is at most 2^32. It doesn't ask
+    /// for room within a hard limit.
     pub fn fill(&mut self, key: &K, value: Arc<V>, cost: u64)
     where
         V: Drop,
@@ -81,31 +90,31 @@ impl<K: Eq + Hash, V> BoxedEntries<K, V> {
         self.inner.fill(key, value, cost);
     }
 
-    /// The key that is being made is taken away.
-    pub fn fail(&mut self, key: &K)
+    /// The key that is being made is taken away. It goes into `freed`.
+    pub fn fail(&mut self, key: &K, freed: &mut Freed<K, V>)
     where
         K: Drop,
         V: Drop,
         requires { IsSome (maker_in (status_of K.eq self.old key.now)) }
         ensures { (m : ℕ) → self.new ≡ state_after K.eq self.old m (Fail key.now) }
     {
-        self.inner.fail(key);
+        self.inner.fail(key, freed);
     }
 
-    /// One pin of the key is given back, and then as few entries are evicted as the limits want.
-    pub fn unpin(&mut self, key: &K)
+    /// One pin of the key is given back, and then as few entries are evicted as the limits want. These go into `freed`.
+    pub fn unpin(&mut self, key: &K, freed: &mut Freed<K, V>)
     where
         K: Drop,
         V: Drop,
         requires { 1 ≤ pins_in (status_of K.eq self.old key.now) }
         ensures { (m : ℕ) → self.new ≡ state_after K.eq self.old m (Unpin key.now) }
     {
-        self.inner.unpin(key);
+        self.inner.unpin(key, freed);
     }
 
     /// New limits, the entries from 1 to 65,536 and the budget at most 2^40, and then as few entries are evicted as they
-    /// want.
-    pub fn set_limits(&mut self, entries: u32, budget: u64)
+    /// want. These go into `freed`.
+    pub fn set_limits(&mut self, entries: u32, budget: u64, freed: &mut Freed<K, V>)
     where
         K: Drop,
         V: Drop,
@@ -114,7 +123,25 @@ impl<K: Eq + Hash, V> BoxedEntries<K, V> {
         requires budget { budget ≤ max_budget }
         ensures { (m : ℕ) → self.new ≡ state_after K.eq self.old m (Limits entries budget) }
     {
-        self.inner.set_limits(entries, budget);
+        self.inner.set_limits(entries, budget, freed);
+    }
+
+    /// A hard limit of what the entries cost together, or none any more. False where the entries pass it as they are: then
+    /// nothing changes.
+    pub fn set_hard_limit(&mut self, hard: Option<HardLimit>) -> bool
+        requires { IsHardLimit hard }
+        ensures set { result ≡ true → (m : ℕ) → self.new ≡ state_after K.eq self.old m (Hard hard) }
+        ensures refused { result ≡ false → self.new ≡ self.old }
+        ensures holds { result ≡ holds_all hard self.old.entries }
+    {
+        self.inner.set_hard_limit(hard)
+    }
+
+    /// The number that makes the key.
+    pub fn maker_of(&self, key: &K) -> Option<u32>
+        ensures { result ≡ maker_in (status_of K.eq self.now key.now) }
+    {
+        self.inner.maker_of(key)
     }
 
     /// The pins of a key whose value is made.

@@ -2,23 +2,24 @@
 ghost use Rattle.std.specs.Prelude.{◌≡◌, ◌≤◌, ◌<◌, ◌∷◌, [], true, IfOk, IfErr, OnOk};
 ghost use Rattle.std.specs.Arc.{arc_value};
 ghost use Rattle.turn_cell.specs.Passes.{first_pass, split_pass, new_pass, joined_pass};
-ghost use Rattle.evict_core.specs.Machine.{Fill, Fail, Unpin, Limits, max_entries, max_budget, max_cost};
+ghost use Rattle.evict_core.specs.Machine.{Fill, Fail, Spill, Unpin, Limits, IsHardLimit, max_entries, max_budget, max_cost};
 ghost use Rattle.evict_core.specs.History.{has_open, pins_left};
 ghost use Rattle.evict_core.specs.Asked.{totals_of};
-ghost use Rattle.flight_cache.specs.Meaning.{shard_count, shard_of};
+ghost use Rattle.flight_cache.specs.Meaning.{shard_count, shard_of, entry_cost};
 ghost use Rattle.flight_cache.specs.Histories.{left_by};
 ghost use Rattle.flight_cache.specs.Calls.{GivesSteps, own_steps};
-ghost use Rattle.flight_cache.specs.Answers.{IsAsked, HasKeyValue};
-ghost use Rattle.flight_cache.specs.Shards.{IsCacheOf, IsShardOf, AreShardsOf, EachGives, EachHasGivenBack, EachIsLegal, EachBegins, EachGaveAsMuch};
-ghost use Rattle.flight_cache.specs.Shards.{EachIsBelow, EachExtends, HasNothing, HasLimits, min_cache_entries, count_sum, total_sum, sum_of_totals, each};
-ghost use Rattle.flight_cache.specs.Shards.{both, at, with_at, part};
+ghost use Rattle.flight_cache.specs.Answers.{IsAsked, IsHomeAsk, HasKeyValue};
+ghost use Rattle.flight_cache.specs.Shards.{IsCacheOf, IsHome, IsShardOf, AreShardsOf, EachGives, EachHasGivenBack, EachIsLegal, EachBegins, EachGaveAsMuch};
+ghost use Rattle.flight_cache.specs.Shards.{EachIsBelow, EachExtends, HasLowerOpen, HasNothing, HasLimits};
+ghost use Rattle.flight_cache.specs.Shards.{min_cache_entries, count_sum, total_sum, sum_of_totals, each};
+ghost use Rattle.flight_cache.specs.Shards.{both, at, with_at, part, hard_part, IsHardSetInEach};
 
 use crate::made::{Made, shard_number};
 use crate::pass::CachePass;
 use crate::pins::{Asked, Pin, Ticket};
 use crate::shard::{Shard, ShardPass};
 use ass_num::{Mem, OutOfMemory};
-use evict_core::{Counts, Totals};
+use evict_core::{Counts, HardLimit, Totals};
 use std::alloc::Global;
 use std::marker::Model;
 use std::sync::{Arc, Wait};
@@ -87,6 +88,22 @@ fn open_part<M: Made>(
     let entries = (entries + number) / 4;
     let budget = (budget + u64::from(number)) / 4;
     Shard::open(alloc, tag, number, entries, budget)
+}
+
+/// The part of this shard in a hard limit.
+fn hard_part(hard: Option<HardLimit>, number: u32) -> Option<HardLimit>
+    requires number { number < shard_count }
+    requires hard { IsHardLimit hard }
+    ensures part { result ≡ hard_part hard number }
+    ensures hard { IsHardLimit result }
+{
+    match hard {
+        None => None,
+        Some(HardLimit { cost, making }) => Some(HardLimit {
+            cost: (cost + u64::from(number)) / 4,
+            making,
+        }),
+    }
 }
 
 impl<M: Made> Cache<M> {
@@ -169,7 +186,8 @@ impl<M: Made> Cache<M> {
         )
     }
 
-    /// Asks for the key, and waits while its value is being made.
+    /// Asks for the key, and waits while its value is being made. Whoever has claims of this cache open asks only for
+    /// keys of higher ranks, so that no two wait for one another.
     pub fn ask<R: Wait>(
         &self,
         rt: &R,
@@ -177,10 +195,12 @@ impl<M: Made> Cache<M> {
         pass: CachePass<M>,
         key: &M::Key,
     ) -> (CachePass<M>, Asked<M>)
-        requires { IsCacheOf self.now pass }
+        requires cell { IsCacheOf self.now pass }
+        requires order { HasLowerOpen M.Key.eq M.meaning self.now pass key.now }
         ensures asked { let n = shard_of (M.meaning.numbers key.now) in
             IsAsked M.Key.eq M.meaning (at self.now.shards n) (at pass n) key.now (at result.0 n) result.1 }
         ensures value { HasKeyValue M.meaning self.now.tag key.now result.1 }
+        ensures home { let n = shard_of (M.meaning.numbers key.now) in IsHomeAsk (at self.now.shards n) result.1 }
         ensures others { let n = shard_of (M.meaning.numbers key.now) in result.0 ≡ with_at pass n (at result.0 n) }
     {
         let number = shard_number::<M>(key);
@@ -189,7 +209,8 @@ impl<M: Made> Cache<M> {
         (others.together(own), asked)
     }
 
-    /// The value of the ticket's key is made: one `Arc` of it is kept, and the other goes into a pin.
+    /// The value of the ticket's key is made: one `Arc` of it is kept, and the other goes into a pin. Where a hard limit has no
+    /// room for it, it is spilled: it isn't kept, and the other `Arc` comes back. That is never where no hard limit was set.
     pub fn fill<R: Wait>(
         &self,
         rt: &R,
@@ -197,28 +218,34 @@ impl<M: Made> Cache<M> {
         ticket: Ticket<M>,
         kept: Arc<M::Value>,
         pinned: Arc<M::Value>,
-    ) -> (CachePass<M>, Pin<M>)
+    ) -> (CachePass<M>, Result<Pin<M>, Arc<M::Value>>)
         requires cell { IsCacheOf self.now pass }
+        requires own { IsHome M.meaning self.now ticket.key ticket.cell }
         requires open { let n = shard_of (M.meaning.numbers ticket.key) in has_open M.Key.eq (own_steps M.meaning (at self.now.shards n).tag (at pass n))
             ticket.key ≡ true }
         requires kept { arc_value kept ≡ M.meaning.made self.now.tag ticket.key }
         requires pinned { arc_value pinned ≡ M.meaning.made self.now.tag ticket.key }
         requires cost { M.meaning.cost (arc_value kept) ≤ max_cost }
-        ensures fill { let n = shard_of (M.meaning.numbers ticket.key) in
+        ensures fill { IfOk result.1 (λ pin. let n = shard_of (M.meaning.numbers ticket.key) in
             GivesSteps M.Key.eq M.meaning (at self.now.shards n) (at pass n) (at result.0 n)
-            (Fill ticket.key (M.meaning.cost (arc_value kept)) (arc_value kept) ∷ []) }
+            (Fill ticket.key (entry_cost M.meaning ticket.key (arc_value kept)) (arc_value kept) ∷ [])) }
         ensures others { let n = shard_of (M.meaning.numbers ticket.key) in result.0 ≡ with_at pass n (at result.0 n) }
-        ensures pin { (result.1.key ≡ ticket.key) × (result.1.value ≡ arc_value pinned) }
+        ensures pin { IfOk result.1 (λ pin. (pin.key ≡ ticket.key) × (pin.value ≡ arc_value pinned) × (pin.cell ≡ ticket.cell)) }
+        ensures spilled { IfErr result.1 (λ value. let n = shard_of (M.meaning.numbers ticket.key) in
+            GivesSteps M.Key.eq M.meaning (at self.now.shards n) (at pass n) (at result.0 n)
+            (Spill ticket.key (entry_cost M.meaning ticket.key (arc_value kept)) ∷ [])) }
+        ensures value { IfErr result.1 (λ value. arc_value value ≡ arc_value pinned) }
     {
         let number = ticket.shard();
         let (own, others) = pass.apart(number);
-        let (own, pin) = self.shard(number).fill(rt, own, ticket, kept, pinned);
-        (others.together(own), pin)
+        let (own, filled) = self.shard(number).fill(rt, own, ticket, kept, pinned);
+        (others.together(own), filled)
     }
 
     /// The value of the ticket's key isn't made.
     pub fn fail<R: Wait>(&self, rt: &R, pass: CachePass<M>, ticket: Ticket<M>) -> CachePass<M>
         requires cell { IsCacheOf self.now pass }
+        requires own { IsHome M.meaning self.now ticket.key ticket.cell }
         requires open { let n = shard_of (M.meaning.numbers ticket.key) in has_open M.Key.eq (own_steps M.meaning (at self.now.shards n).tag (at pass n))
             ticket.key ≡ true }
         ensures fail { let n = shard_of (M.meaning.numbers ticket.key) in
@@ -234,6 +261,7 @@ impl<M: Made> Cache<M> {
     /// Gives a pin back.
     pub fn unpin<R: Wait>(&self, rt: &R, pass: CachePass<M>, pin: Pin<M>) -> CachePass<M>
         requires cell { IsCacheOf self.now pass }
+        requires own { IsHome M.meaning self.now pin.key pin.cell }
         requires held { let n = shard_of (M.meaning.numbers pin.key) in 1 ≤ pins_left M.Key.eq (own_steps M.meaning (at self.now.shards n).tag (at pass n))
             pin.key }
         ensures unpin { let n = shard_of (M.meaning.numbers pin.key) in
@@ -246,10 +274,12 @@ impl<M: Made> Cache<M> {
         others.together(own)
     }
 
-    /// New limits: each shard gets its part of both.
+    /// New limits: each shard gets its part of both. It needs no memory; what it takes keeps evicted values until others may
+    /// have the turn.
     pub fn set_limits<R: Wait>(
         &self,
         rt: &R,
+        alloc: Global,
         pass: CachePass<M>,
         entries: u32,
         budget: u64,
@@ -267,17 +297,51 @@ impl<M: Made> Cache<M> {
             fourth,
         } = pass;
         CachePass {
-            first: self.first.set_limits(rt, first, entries / 4, budget / 4),
+            first: self
+                .first
+                .set_limits(rt, alloc, first, entries / 4, budget / 4),
             second: self
                 .second
-                .set_limits(rt, second, (entries + 1) / 4, (budget + 1) / 4),
+                .set_limits(rt, alloc, second, (entries + 1) / 4, (budget + 1) / 4),
             third: self
                 .third
-                .set_limits(rt, third, (entries + 2) / 4, (budget + 2) / 4),
+                .set_limits(rt, alloc, third, (entries + 2) / 4, (budget + 2) / 4),
             fourth: self
                 .fourth
-                .set_limits(rt, fourth, (entries + 3) / 4, (budget + 3) / 4),
+                .set_limits(rt, alloc, fourth, (entries + 3) / 4, (budget + 3) / 4),
         }
+    }
+
+    /// A hard limit of what all entries of this cache cost together, or none any more: each shard gets its part of the cost, and
+    /// counts each that is being made as the limit says. A shard whose entries pass its part as they are keeps the limit that it
+    /// had; then it is false. It takes no memory and evicts nothing.
+    pub fn set_hard_limit<R: Wait>(
+        &self,
+        rt: &R,
+        pass: CachePass<M>,
+        hard: Option<HardLimit>,
+    ) -> (CachePass<M>, bool)
+        requires cell { IsCacheOf self.now pass }
+        requires hard { IsHardLimit hard }
+        ensures { IsHardSetInEach M.Key.eq M.meaning self.now.shards pass hard result.0 result.1 }
+    {
+        let CachePass {
+            first,
+            second,
+            third,
+            fourth,
+        } = pass;
+        let (first, first_set) = self.first.set_hard_limit(rt, first, hard_part(hard, 0));
+        let (second, second_set) = self.second.set_hard_limit(rt, second, hard_part(hard, 1));
+        let (third, third_set) = self.third.set_hard_limit(rt, third, hard_part(hard, 2));
+        let (fourth, fourth_set) = self.fourth.set_hard_limit(rt, fourth, hard_part(hard, 3));
+        let pass = CachePass {
+            first,
+            second,
+            third,
+            fourth,
+        };
+        (pass, first_set && second_set && third_set && fourth_set)
     }
 
     /// A new pass. The first one comes back alone where no number is left.

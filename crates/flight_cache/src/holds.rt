@@ -8,7 +8,7 @@ ghost use Rattle.flight_cache.specs.Meaning.{shard_count};
 ghost use Rattle.flight_cache.specs.Shards.{IsCacheOf, at};
 ghost use Rattle.flight_cache.specs.Pinning.{IsTurnOut, keys_in, shards_of};
 ghost use Rattle.flight_cache.specs.Holds.{IsHeld, IsHoldOf, IsLost, IsOneLost, CanPin, IsPassPinned, AreHeld, AreHoldsOf, CanPinAll, ArePassesPinned};
-ghost use Rattle.flight_cache.specs.Holds.{IsRefusalOf, pass_back, passes_back, pins_at, held_value, four_of};
+ghost use Rattle.flight_cache.specs.Holds.{IsRefusalOf, pass_back, passes_back, pins_at, maker_at, unready, held_value, four_of};
 
 use crate::cache::Cache;
 use crate::kept::{Entry, Kept};
@@ -20,6 +20,12 @@ use ass_num::{Mem, OutOfMemory};
 use std::snapshot::Snapshot;
 use std::sync::Arc;
 use turn_cell::Turn;
+
+/// What a try for a turn is shown. It is made in here alone, where nothing has a handle to wait with.
+#[derive(Drop)]
+pub(crate) struct Trying {
+    _here: (),
+}
 
 /// The turn of a shard, or its pass where no key is in it.
 pub(crate) enum Hold<M: Made> {
@@ -46,6 +52,19 @@ impl<M: Made> Hold<M> {
         }
     }
 
+    /// Why a key without pins can't be pinned: somebody makes it, or nobody does.
+    fn unready(&self, place: usize, key: &M::Key) -> PinRefusal
+        ensures { result ≡ unready place (maker_at M.Key.eq self.now key.now) }
+    {
+        match self {
+            Hold::Turn(turn) => match turn.value().entries.maker_of(key) {
+                Some(_) => PinRefusal::Making(place),
+                None => PinRefusal::NotReady(place),
+            },
+            Hold::Pass(_) => PinRefusal::NotReady(place),
+        }
+    }
+
     /// The value of a key whose value is ready.
     fn value_of(&self, key: &M::Key) -> Mem<Option<Arc<M::Value>>>
         ensures { IfOk result (λ o. option_map arc_value o ≡ held_value M.Key.eq self.now key.now) }
@@ -67,10 +86,9 @@ impl<M: Made> Shard<M> {
         if !shards.contains(&self.number) {
             return Ok(Hold::Pass(pass));
         }
-        let ShardPass { pass } = pass;
-        match self.cell.try_take(pass) {
+        match self.try_take(&Trying { _here: () }, pass) {
             Ok(turn) => Ok(Hold::Turn(turn)),
-            Err(pass) => Err(ShardPass { pass }),
+            Err(pass) => Err(pass),
         }
     }
 
@@ -185,8 +203,9 @@ impl<M: Made> Cache<M> {
         self.proof_numbered();
         for i in 0..keys.len() {
             let key = &keys[i];
-            let Some(pins) = holds.of(shards[i]).pins_of(key) else {
-                return Some(PinRefusal::NotReady(i));
+            let hold = holds.of(shards[i]);
+            let Some(pins) = hold.pins_of(key) else {
+                return Some(hold.unready(i, key));
             };
             let room = (u32::MAX - pins) as usize;
             if room <= i && room <= places(keys, i, key) {

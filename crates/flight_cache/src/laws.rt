@@ -1,5 +1,7 @@
 //! The laws of shards and of what calls make of a pass. The functions do nothing: their contracts are the laws.
-ghost use Rattle.flight_cache.specs.Laws.{ShardsStayInBudget, ShardsStayInLimit, HistoryInBudget, HistoryInLimit, ShardsClaimOnce, ShardsFillOnce};
+ghost use Rattle.flight_cache.specs.Laws.{ShardsStayInBudget, ShardsStayInLimit, HistoryInBudget};
+ghost use Rattle.flight_cache.specs.Laws.{HistoryInLimit, IdleInBudget, ShardsClaimOnce, ShardsFillOnce};
+ghost use Rattle.flight_cache.specs.Laws.{ShardsStayInHardLimit, HistoryInHardLimit, HardIsUnset, HardIsSet, NoneIsSpilled, SpillsHaveNoRoom};
 ghost use Rattle.flight_cache.specs.Laws.{ReadyAreMade, FliesWhereOpen, ShardPinsAreHeld, ShardsKeepHeld, HitHolds, FillHolds, UnpinGives, PinAllHolds};
 ghost use Rattle.flight_cache.specs.Laws.{ClaimOpens, AskIsAnswered, PlacesAreInShard, PinnedAllHolds, NothingIsGivenBack, GivenBackAgain, OneGivesBack};
 ghost use Rattle.flight_cache.specs.Laws.{GivesFollow, GivesOwnSteps, EachIsLater, GivesItself, NothingHolds, RefusedForOneCause, LimitsAreOpened};
@@ -21,16 +23,29 @@ pub fn values<M: Made>()
 {}
 
 /// The budget law: the entries that no pin holds cost at most the shard's budget, whenever the turn is home and after
-/// every history.
+/// every history; so an entry that costs more alone isn't kept once no pin holds it.
 pub fn budget<M: Made>()
     ensures home { ShardsStayInBudget M M.Key.eq M.meaning }
     ensures history { HistoryInBudget M.Key.eq M.meaning }
+    ensures alone { IdleInBudget M.Key.eq M.meaning }
 {}
 
 /// The limit law: a list that is longer than the shard's limit has no entry to evict.
 pub fn limit<M: Made>()
     ensures home { ShardsStayInLimit M M.Key.eq M.meaning }
     ensures history { HistoryInLimit M.Key.eq M.meaning }
+{}
+
+/// The hard law: where a hard limit is set, pinned, unpinned and unmade values cost at most the shard's part of it together, what
+/// is being made at what the limit has for one, whenever the turn is home and after every history. There is none where no step
+/// set one, else the last that was set. A value is spilled only where it has no room, so never where none was set.
+pub fn hard<M: Made>()
+    ensures home { ShardsStayInHardLimit M M.Key.eq M.meaning }
+    ensures history { HistoryInHardLimit M.Key.eq M.meaning }
+    ensures unset { HardIsUnset M.Key.eq M.meaning }
+    ensures set { HardIsSet M.Key.eq M.meaning }
+    ensures spills { SpillsHaveNoRoom M.Key.eq M.meaning }
+    ensures none { NoneIsSpilled M.Key.eq M.meaning }
 {}
 
 /// The pin law: who makes a key has its claim open, the pins of a key are those that all numbers hold, and what is held

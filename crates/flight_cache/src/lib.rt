@@ -6,6 +6,7 @@
 
 mod bell;
 mod boxed_entries;
+mod budgets;
 mod cache;
 mod holds;
 mod kept;
@@ -16,9 +17,10 @@ mod pinning;
 mod pins;
 mod shard;
 
+pub use budgets::Budgets;
 pub use cache::Cache;
 pub use kept::{Entry, Opening};
-pub use made::{Made, ShardSum};
+pub use made::{Made, ShardSum, entry_cost};
 pub use pass::CachePass;
 pub use pinning::PinRefusal;
 pub use pins::{Asked, Pin, Ticket};

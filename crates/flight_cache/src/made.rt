@@ -1,7 +1,7 @@
 //! What a cache keeps.
-ghost use Rattle.std.specs.Prelude.{◌≡◌, ◌≤◌, ◌<◌, true, IfOk};
+ghost use Rattle.std.specs.Prelude.{◌≡◌, ◌≤◌, ◌<◌, ◌*◌, true, IfOk};
 ghost use Rattle.evict_core.specs.Machine.{max_cost};
-ghost use Rattle.flight_cache.specs.Meaning.{Meaning, mixed, mixed_all, shard_at, shard_of, shard_count};
+ghost use Rattle.flight_cache.specs.Meaning.{Meaning, entry_cost, mixed, mixed_all, no_numbers, number_cost, shard_at, shard_of, shard_count};
 
 use ass_num::Mem;
 use std::alloc::Global;
@@ -19,26 +19,33 @@ const SHARD_UNIT: u32 = 65536;
 
 const SHARD_COUNT: u32 = 4;
 
-/// The sum of a key's numbers, which tells its shard.
+/// What a key takes for each of its numbers.
+const NUMBER_COST: u64 = 20;
+
+/// The greatest cost of an entry.
+const MAX_COST: u64 = 4_294_967_296;
+
+/// The sum of a key's numbers, which tells its shard, and how many they are, held at 4,294,967,295.
 #[derive(Drop)]
 pub struct ShardSum {
     sum: u32,
+    count: u32,
 }
 
 impl Model for ShardSum {
-    ghost use Rattle.std.specs.Prelude.{ℕ};
+    ghost use Rattle.flight_cache.specs.Meaning.{SumView};
 
-    ghost Value = { ℕ };
+    ghost Value = { SumView };
 
-    ghost view = { λ s. s.sum };
+    ghost view = { λ s. record { sum = s.sum; count = s.count } };
 }
 
 impl ShardSum {
     /// The sum of no numbers.
     pub fn new() -> ShardSum
-        ensures { result ≡ 0 }
+        ensures { result ≡ no_numbers }
     {
-        ShardSum { sum: 0 }
+        ShardSum { sum: 0, count: 0 }
     }
 
     /// One number more.
@@ -47,6 +54,14 @@ impl ShardSum {
     {
         let sum = u64::from(self.sum) * SUM_FACTOR + u64::from(number);
         self.sum = (sum % SUM_BOUND) as u32;
+        self.count = self.count.saturating_add(1);
+    }
+
+    /// What a key of these numbers takes.
+    fn key_cost(&self) -> u64
+        ensures { result ≡ number_cost * self.now.count }
+    {
+        NUMBER_COST * u64::from(self.count)
     }
 
     /// The shard that the sum tells, from 0 to 3.
@@ -66,7 +81,7 @@ pub trait Made {
 
     type Tag: Drop;
 
-    /// The value of each key, what a value costs, and the numbers that tell a key's shard.
+    /// The value of each key, what a value costs, the numbers that tell a key's shard, and the key's rank.
     ghost meaning: { Meaning Self.Key Self.Value Self.Tag };
 
     /// What a value costs, which is at most 2^32.
@@ -94,4 +109,14 @@ pub(crate) fn shard_number<M: Made>(key: &M::Key) -> u32
     let mut sum = ShardSum::new();
     M::numbers(key, &mut sum);
     sum.shard()
+}
+
+/// What an entry costs: its value, and 20 for each number of its key; at most 2^32.
+pub fn entry_cost<M: Made>(key: &M::Key, value: &M::Value) -> u64
+    requires { M.meaning.cost value.now ≤ max_cost }
+    ensures { result ≡ entry_cost M.meaning key.now value.now }
+{
+    let mut sum = ShardSum::new();
+    M::numbers(key, &mut sum);
+    (M::cost(value) + sum.key_cost()).min(MAX_COST)
 }

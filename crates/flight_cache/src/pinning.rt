@@ -1,23 +1,26 @@
 //! Pins of several keys at once, without waiting.
 ghost use Rattle.std.specs.Prelude.{◌≡◌, ◌≤◌, [], length, map, IfOk, IfErr, vec_capacity, vec_len};
 ghost use Rattle.std.specs.Arc.{arc_value};
-ghost use Rattle.flight_cache.specs.Shards.{IsCacheOf};
+ghost use Rattle.flight_cache.specs.Shards.{IsCacheOf, at};
 ghost use Rattle.flight_cache.specs.Pinning.{GivesNothing, IsPinnedAll, IsRefused, shards_of};
 
 use crate::cache::Cache;
 use crate::made::{Made, shard_number};
 use crate::pass::CachePass;
 use crate::pins::Pin;
+use crate::shard::ShardPass;
 use ass_num::{Mem, OutOfMemory};
 use std::alloc::Global;
+use std::snapshot::Snapshot;
 use std::sync::Arc;
 
-/// Why keys weren't pinned: a shard's turn is out; the value of the key at a place isn't ready; it has all its pins; or
-/// memory ran out.
+/// Why keys weren't pinned: a shard's turn is out; the key at a place isn't there, so that its value is still to be made; it is
+/// being made; it has all its pins; or memory ran out.
 #[derive(Clone, Copy, Debug, PartialEq, Eq)]
 pub enum PinRefusal {
     TurnOut,
     NotReady(usize),
+    Making(usize),
     PinsFull(usize),
     OutOfMemory,
 }
@@ -84,7 +87,8 @@ impl<M: Made> Cache<M> {
             return (self.let_go(holds), Err(PinRefusal::OutOfMemory));
         };
         let pass = self.pin_all(holds, &keys, shards);
-        (pass, Ok(pins_with::<M>(keys, shards, values, room)))
+        let pins = pins_with::<M>(&pass, keys, shards, values, room);
+        (pass, Ok(pins))
     }
 }
 
@@ -113,8 +117,21 @@ fn room_for<M: Made>(alloc: Global, count: usize) -> Mem<Vec<Pin<M>>>
     Ok(room)
 }
 
-/// A pin of each key with its value, in the order of the keys. There is room for them.
+/// The pass of this shard, as contracts see it.
+fn home_of<M: Made>(pass: &CachePass<M>, shard: u32) -> Snapshot<ShardPass<M>>
+    ensures { result.value ≡ at pass.now shard }
+{
+    match shard {
+        0 => Snapshot::of(&pass.first),
+        1 => Snapshot::of(&pass.second),
+        2 => Snapshot::of(&pass.third),
+        _ => Snapshot::of(&pass.fourth),
+    }
+}
+
+/// A pin of each key with its value, in the order of the keys, by the pass that holds it. There is room for them.
 fn pins_with<M: Made>(
+    pass: &CachePass<M>,
     keys: Vec<M::Key>,
     shards: &Vec<u32>,
     values: Vec<Arc<M::Value>>,
@@ -127,6 +144,7 @@ fn pins_with<M: Made>(
     requires room { length keys.items ≤ vec_capacity room }
     ensures keys { map (λ p. p.key) result.items ≡ keys.items }
     ensures values { map (λ p. p.value) result.items ≡ map arc_value values.items }
+    ensures cells { map (λ p. p.cell) result.items ≡ map (λ n. (at pass.now n).cell) shards.now.items }
 {
     let mut keys = keys;
     let mut values = values;
@@ -136,7 +154,13 @@ fn pins_with<M: Made>(
             unreachable!()
         };
         let shard = shards[keys.len()];
-        pins.push_reserved(Pin { key, shard, value });
+        let home = home_of(pass, shard);
+        pins.push_reserved(Pin {
+            key,
+            shard,
+            value,
+            home,
+        });
     }
     pins.reverse();
     pins

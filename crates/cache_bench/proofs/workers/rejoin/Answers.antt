@@ -1,4 +1,3 @@
-use Rattle.std.proofs.Common.{ap, ◌∙◌}
 use Rattle.flight_cache.proofs.Visits.{join-stays}
 use Rattle.cache_bench.proofs.workers.rejoin.Goals as goal
 

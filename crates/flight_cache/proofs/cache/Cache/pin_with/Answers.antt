@@ -6,6 +6,7 @@ use Rattle.flight_cache.specs.Pinning.{GivesNothing, IsRefused}
 use Rattle.flight_cache.specs.Holds.{AreHoldsOf, CanPinAll}
 use Rattle.flight_cache.specs.declared.pinning.PinRefusal.TheVariants.{OutOfMemory}
 use Rattle.flight_cache.proofs.Four.{back-nothing}
+use Rattle.flight_cache.proofs.Homes.{pinned-homes}
 use Rattle.flight_cache.proofs.Refusals.{out-nothing}
 use Rattle.flight_cache.proofs.Refusing.{refused-of, pinned-of, short-of}
 use Rattle.flight_cache.proofs.cache.Cache.pin_with.Goals as goal
@@ -37,9 +38,10 @@ returns-in_default-values g c =
 pub returns-clause-pinned : goal.returns-clause-pinned
 returns-clause-pinned g c =
     let h = subst (λ (l : List ℕ). AreHoldsOf g.M.Key.PartialEq.eq g.M.Made.meaning l c.args.self.now c.args.pass c.in-Ok.holds) c.requires.shards c.in-Ok.ensures.held in
-    pinned-of g.M.Key.PartialEq.eq g.met.M.Key.Eq.laws g.met.M.Made.same_key g.M.Made.meaning c.args.self.now c.proof_numbered.ensures c.args.pass c.args.keys.items c.in-Ok.holds h c.pin_all-pass.result c.pins_with.result.items c.pin_all-pass.ensures c.pins_with.ensures.keys
-    (c.pins_with.ensures.values ∙ c.in-Ok-values.ensures)
+    let homes = pinned-homes g.M.Key.PartialEq.eq g.M.Made.meaning c.args.keys.items c.args.self.now c.args.pass c.pin_all-pass.result c.requires.cell c.in-Ok.holds h c.pin_all-pass.ensures c.pins_with-pins.result.items c.args.shards.now.items c.requires.shards c.pins_with-pins.ensures.cells in
+    pinned-of g.M.Key.PartialEq.eq g.met.M.Key.Eq.laws g.met.M.Made.same_key g.M.Made.meaning c.args.self.now c.proof_numbered.ensures c.args.pass c.args.keys.items c.in-Ok.holds h c.pin_all-pass.result c.pins_with-pins.result.items c.pin_all-pass.ensures c.pins_with-pins.ensures.keys
+    (c.pins_with-pins.ensures.values ∙ c.in-Ok-values.ensures) homes
 
-pub pins_with-requires-clause-values : goal.pins_with-requires-clause-values
-pins_with-requires-clause-values g c =
+pub pins_with-pins-requires-clause-values : goal.pins_with-pins-requires-clause-values
+pins_with-pins-requires-clause-values g c =
     omega (arith, ap length c.in-Ok-values.ensures, length-map c.in-Ok-values.values.items arc_value, length-map c.args.keys.items (g.M.Made.meaning.made c.args.self.now.tag))

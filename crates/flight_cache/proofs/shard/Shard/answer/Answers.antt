@@ -47,32 +47,28 @@ pub give-pass-requires-in-Claimable-clause-value : goal.give-pass-requires-in-Cl
 give-pass-requires-in-Claimable-clause-value g c =
     stands-asked g.M.Made.meaning c.args.self.now.tag g.M.Key.PartialEq.eq g.met.M.Key.Eq.laws g.met.M.Made.same_key c.args.before.value c.args.turn c.requires.turn c.value_mut.result.now c.value_mut.ensures.value
     Claim machine.Claim (λ k. refl) c.of-in-Claimable.result c.args.key c.of-in-Claimable.ensures c.requires.shard c.in-Claimable.ensures.0 c.claim-claimed.new.self
-    (claimed g.M.Key.PartialEq.eq c.claim-claimed.new.self c.value_mut-in-Claimable.result.now.entries c.value_mut.result.now.entries c.number-number.result c.args.turn.pass.number c.in-Ok.copy c.args.key
-    (on-ok c.claim-claimed.result _ (sym c.is_err.ensures.value ∙ c.if-is_err.false) c.claim-claimed.ensures.ok) (ap (λ (z : Kept g.row.M.Denot g.row.M-Key.Denot g.row.M-Value.Denot g.row.M-Tag.Denot). z.entries) c.value_mut-in-Claimable.ensures.value ∙ c.in-Claimable.ensures.1) c.number-number.ensures c.in-Ok.ensures)
+    (claimed g.M.Key.PartialEq.eq c.claim-claimed.new.self c.value_mut-in-Claimable.result.now.entries c.value_mut.result.now.entries c.number-number.result c.args.turn.pass.number c.in-Some.own c.args.key
+    (on-ok c.claim-claimed.result _ (sym c.is_err.ensures.value ∙ c.if-is_err.false) c.claim-claimed.ensures.ok) (ap (λ (z : Kept g.row.M.Denot g.row.M-Key.Denot g.row.M-Value.Denot g.row.M-Tag.Denot). z.entries) c.value_mut-in-Claimable.ensures.value ∙ c.in-Claimable.ensures.1) c.number-number.ensures (rw c.in-Some.is at c.requires.copy))
 
-pub returns-in-Claimable-clause-asked : goal.returns-in-Claimable-clause-asked
-returns-in-Claimable-clause-asked g c = (
+pub returns-else-is_err-clause-asked : goal.returns-else-is_err-clause-asked
+returns-else-is_err-clause-asked g c = (
   gives-key g.M.Made.meaning c.args.self.now.tag g.M.Key.PartialEq.eq g.met.M.Key.Eq.laws g.met.M.Made.same_key c.args.before.value c.args.turn c.requires.turn
       Claim (λ z. machine.Ask z machine.Claim) (λ k. refl) c.of-in-Claimable.result c.args.key c.of-in-Claimable.ensures c.args.self.now c.give-pass-in-Claimable.result refl c.requires.legal c.give-pass-in-Claimable.ensures.legal c.give-pass-in-Claimable.ensures.pass,
   refl,
 )
 
-pub returns-in-Flying-clause-flying : goal.returns-in-Flying-clause-flying
-returns-in-Flying-clause-flying g c = (
+pub returns-in-Flying-clause-again : goal.returns-in-Flying-clause-again
+returns-in-Flying-clause-again g c = (
   refl,
+  tt,
   gives-turn g.M.Made.meaning c.args.self.now.tag g.M.Key.PartialEq.eq g.met.M.Key.Eq.laws g.met.M.Made.same_key c.args.before.value c.args.turn c.requires.turn
       c.args.self.now c.give-pass-in-Flying.result None refl c.requires.legal c.give-pass-in-Flying.ensures.legal c.give-pass-in-Flying.ensures.pass,
 )
 
-pub returns-clause-asked : goal.returns-clause-asked
-returns-clause-asked g c =
+pub returns-in-OutOfMemory-clause-asked : goal.returns-in-OutOfMemory-clause-asked
+returns-in-OutOfMemory-clause-asked g c =
     short-ask g.M.Made.meaning c.args.self.now.tag g.M.Key.PartialEq.eq g.met.M.Key.Eq.laws g.met.M.Made.same_key c.args.before.value c.args.turn c.requires.turn
     c.value_mut.result.now c.value_mut.ensures.value c.args.self.now c.give-pass-in-OutOfMemory.result refl c.requires.legal c.give-pass-in-OutOfMemory.ensures.legal c.give-pass-in-OutOfMemory.ensures.pass c.args.key machine.Hit refl c.in-OutOfMemory.ensures.0
-
-pub returns-in_default-clause-asked : goal.returns-in_default-clause-asked
-returns-in_default-clause-asked g c =
-    short-ask g.M.Made.meaning c.args.self.now.tag g.M.Key.PartialEq.eq g.met.M.Key.Eq.laws g.met.M.Made.same_key c.args.before.value c.args.turn c.requires.turn
-    c.value_mut.result.now c.value_mut.ensures.value c.args.self.now c.give-pass-in_default.result refl c.requires.legal c.give-pass-in_default.ensures.legal c.give-pass-in_default.ensures.pass c.args.key machine.Claim refl c.in-Claimable.ensures.0
 
 pub returns-then-is_err-clause-asked : goal.returns-then-is_err-clause-asked
 returns-then-is_err-clause-asked g c =

@@ -12,5 +12,5 @@ answer-requires-clause-legal g c = rw c.of-before.ensures c.take-turn.ensures.le
 pub returns-clause-asked : goal.returns-clause-asked
 returns-clause-asked g c = rw c.of-before.ensures at c.answer.ensures.asked
 
-pub returns-clause-flying : goal.returns-clause-flying
-returns-clause-flying g c = rw c.of-before.ensures at c.answer.ensures.flying
+pub returns-clause-again : goal.returns-clause-again
+returns-clause-again g c = rw c.of-before.ensures at c.answer.ensures.again
