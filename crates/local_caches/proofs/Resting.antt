@@ -1,11 +1,12 @@
 -- What each call leaves of a cache at rest.
-use Rattle.std.proofs.Common.{◌≡◌, ℕ, ◌<◌, ◌≤◌, Bool, true, false, cond, ◌||◌, nat_lt, List, [], ◌∷◌, length, Option, Some, None, option_map, refl, sym, ap, ◌∙◌, true≢false, arith}
+use Rattle.std.proofs.Common.{◌≡◌, ℕ, ◌+◌, ◌<◌, ◌≤◌, Bool, true, false, cond, ◌&&◌, ◌||◌, nat_lt, List, [], ◌∷◌, length, Option, Some, None, option_map, refl, sym, ap, ◌∙◌, true≢false, arith}
 use Rattle.std.specs.Cmp.{IsEquivalence}
 use Rattle.std.specs.Map.{lookup}
 use Rattle.std.proofs.lemmas.Bool.{or_parts, ltb-true, ltb-false}
 use Rattle.evict_core.specs.Recency.{Apart, change}
-use Rattle.evict_core.specs.Machine.{Status, Flying, Ready, State, Hit, Claim, Crowded, Ask, Fill, Unpin, Limits, max_entries, max_budget, is_idle, one_pin_more, one_pin_less, pins_in, maker_in, has_idle, evict, trim, status_of, ask_answer, answer_at, hit, room_for_one, put_first, state_after}
+use Rattle.evict_core.specs.Machine.{Status, Flying, Ready, State, Hit, Claim, Crowded, Ask, Fill, Unpin, Limits, max_entries, max_budget, is_idle, one_pin_more, one_pin_less, pins_in, maker_in, has_idle, has_space, has_room, is_held, unpinned, pinned, flying, evict, trim, status_of, ask_answer, answer_at, hit, room_for_one, put_first, state_after}
 use Rattle.evict_core.specs.History.{one_if, opening}
+use Rattle.evict_core.specs.declared.hard_limit.HardLimit.{HardLimit}
 use Rattle.evict_core.specs.Asked.{ready_value}
 use Rattle.evict_core.proofs.AskLemmas.{claim-absent}
 use Rattle.evict_core.proofs.RecencyLemmas.{lookup-to_front, lookup-change, lookup-without_last, Apart-change, Apart-without_last}
@@ -24,13 +25,13 @@ few-entries budget = omega arith
 module _ {K V : Type 0} where
   -- the limits stay
   abbrev pub AreLimitsOf : State K V → State K V → Type 0
-  AreLimitsOf s t = (t.limit ≡ s.limit) × (t.budget ≡ s.budget)
+  AreLimitsOf s t = (t.limit ≡ s.limit) × (t.budget ≡ s.budget) × (t.hard ≡ s.hard)
 
   pub limits-trim : (s : State K V) → AreLimitsOf s (trim s)
-  limits-trim s = kept-by-trim (AreLimitsOf s) (λ t _ h. h) (length s.entries) s refl (refl, refl)
+  limits-trim s = kept-by-trim (AreLimitsOf s) (λ t _ h. h) (length s.entries) s refl (refl, refl, refl)
 
   limits-room : (s : State K V) → AreLimitsOf s (room_for_one s)
-  limits-room s = elim (nat_lt (length s.entries) s.limit) as (λ b. AreLimitsOf s (cond b s (evict s))) [ true ↦ (refl, refl) | false ↦ (refl, refl) ]
+  limits-room s = elim (nat_lt (length s.entries) s.limit) as (λ b. AreLimitsOf s (cond b s (evict s))) [ true ↦ (refl, refl, refl) | false ↦ (refl, refl, refl) ]
 
   module _ (eq : K → K → Bool) where
     pub limits-hit : (s : State K V) (key : K) → AreLimitsOf s (with_hit eq s key)
@@ -41,11 +42,11 @@ module _ {K V : Type 0} where
         let claimed = put_first (room_for_one s) key 0 in
         let filled = state_after eq claimed 0 (Fill key price value) in
         let trimmed = limits-trim (record filled { entries = change (eq key) one_pin_less filled.entries }) in
-        let room = limits-room s in (trimmed.0 ∙ room.0, trimmed.1 ∙ room.1)
+        let room = limits-room s in (trimmed.0 ∙ room.0, trimmed.1 ∙ room.1, trimmed.2 ∙ room.2)
 
-module _ {K V : Type 0} (eq : K → K → Bool) (laws : IsEquivalence eq) (made : K → V) (cost : V → ℕ) where
+module _ {K V : Type 0} (eq : K → K → Bool) (laws : IsEquivalence eq) (made : K → V) (cost : K → V → ℕ) where
   abbrev resting : K → Status V
-  resting key = Ready 0 (cost (made key)) (made key)
+  resting key = Ready 0 (cost key (made key)) (made key)
 
   -- what is found is as at rest
   abbrev Rests : K → Option (Status V) → Type 0
@@ -65,8 +66,8 @@ module _ {K V : Type 0} (eq : K → K → Bool) (laws : IsEquivalence eq) (made 
   sound-rest s rest = record { apart = rest.apart; in_budget = rest.in_budget; in_limit = λ over. absurd (omega (arith, over, rest.in_limit)) }
 
   -- a sound state whose entries rest is at rest
-  rest-sound : (s : State K V) → IsSound eq s → AllRest s.entries → s.limit ≡ entry_limit s.budget → IsAtRest eq made cost s
-  rest-sound s sound rest limit = record {
+  rest-sound : (s : State K V) → IsSound eq s → AllRest s.entries → s.limit ≡ entry_limit s.budget → s.hard ≡ None → IsAtRest eq made cost s
+  rest-sound s sound rest limit hard = record {
     ready = rest;
     apart = sound.apart;
     in_budget = sound.in_budget;
@@ -75,6 +76,7 @@ module _ {K V : Type 0} (eq : K → K → Bool) (laws : IsEquivalence eq) (made 
       | false ↦ λ t. ltb-false _ _ t
     ]) refl;
     limit = limit;
+    hard = hard;
   }
 
   rest-evict : (s : State K V) → Apart eq s.entries → AllRest s.entries → AllRest (evict s).entries
@@ -86,7 +88,7 @@ module _ {K V : Type 0} (eq : K → K → Bool) (laws : IsEquivalence eq) (made 
 
   -- no entries
   pub rest-opening : (budget : ℕ) → IsAtRest eq made cost (opening (entry_limit budget) budget)
-  rest-opening budget = record { ready = λ key status found. cc; apart = tt; in_budget = omega arith; in_limit = omega arith; limit = refl }
+  rest-opening budget = record { ready = λ key status found. cc; apart = tt; in_budget = omega arith; in_limit = omega arith; limit = refl; hard = refl }
 
   -- a pin more and one less
   unpinned-again : (q : K) (b : Bool) (r : Option (Status V)) → Rests q r → Rests q (cond b (option_map one_pin_less (cond b (option_map one_pin_more r) r)) (cond b (option_map one_pin_more r) r))
@@ -104,11 +106,14 @@ module _ {K V : Type 0} (eq : K → K → Bool) (laws : IsEquivalence eq) (made 
   filled-again q price value false r is rest status found = rest status found
 
   module _ (s : State K V) (rest : IsAtRest eq made cost s) where
-    some-room : (nat_lt (length s.entries) s.limit || has_idle s.entries) ≡ true
+    some-space : has_space s ≡ true
+    some-space = ap (λ (hard : Option HardLimit). is_held hard (unpinned s.entries + pinned s.entries) (flying s.entries + 1)) rest.hard
+
+    some-room : has_room s ≡ true
     some-room =
         let some : 1 ≤ s.limit = rw rest.limit (some-limit s.budget) in
-        (elim (nat_lt (length s.entries) s.limit || has_idle s.entries) as (λ b. (nat_lt (length s.entries) s.limit || has_idle s.entries) ≡ b → b ≡ true) [
-          | true ↦ λ _. refl
+        (elim (nat_lt (length s.entries) s.limit || has_idle s.entries) as (λ b. (nat_lt (length s.entries) s.limit || has_idle s.entries) ≡ b → (b && has_space s) ≡ true) [
+          | true ↦ λ _. some-space
           | false ↦ λ t. let parts = or_parts (nat_lt (length s.entries) s.limit) (has_idle s.entries) t in
               absurd (omega (arith, some, ltb-false _ _ parts.0, none-idle s.entries rest.ready parts.1))
         ]) refl
@@ -118,7 +123,7 @@ module _ {K V : Type 0} (eq : K → K → Bool) (laws : IsEquivalence eq) (made 
         let limited : State K V = record s { limit = entry_limit budget; budget = budget } in
         let sound = sound-after eq laws s (λ _. 0) 0 (Limits (entry_limit budget) budget) (sound-rest s rest) (some-limit budget, few-entries budget, within) in
         let limits = limits-trim limited in
-        rest-sound (trim limited) sound (rest-trim limited rest.apart rest.ready) (limits.0 ∙ ap entry_limit (sym limits.1))
+        rest-sound (trim limited) sound (rest-trim limited rest.apart rest.ready) (limits.0 ∙ ap entry_limit (sym limits.1)) (limits.2 ∙ rest.hard)
 
     module _ (key : K) where
       -- what a hit finds is the key's value
@@ -168,7 +173,7 @@ module _ {K V : Type 0} (eq : K → K → Bool) (laws : IsEquivalence eq) (made 
             unpinned-again q (eq q key) (status_of eq s q) (rest.ready q) status (sym looked ∙ found) in
             rest-sound (with_hit eq s key) (sound-after eq laws hits (λ _. 1) 0 (Unpin key) sound-hit (omega arith))
             (rest-trim less (Apart-change eq laws key one_pin_less hits.entries sound-hit.apart) rests)
-            (limits.0 ∙ (rest.limit ∙ ap entry_limit (sym limits.1)))
+            (limits.0 ∙ (rest.limit ∙ ap entry_limit (sym limits.1))) (limits.2 ∙ rest.hard)
 
       module _ (answered : ask_answer eq s key ≡ Some Claim) (price : ℕ) (value : V) where
         abbrev claimed : State K V
@@ -194,7 +199,7 @@ module _ {K V : Type 0} (eq : K → K → Bool) (laws : IsEquivalence eq) (made 
         rest-room : AllRest (room_for_one s).entries
         rest-room = elim (nat_lt (length s.entries) s.limit) as (λ b. AllRest (cond b s (evict s)).entries) [ true ↦ rest.ready | false ↦ rest-evict s rest.apart rest.ready ]
 
-        pub rest-fill : ((a b : K) → eq a b ≡ true → a ≡ b) → price ≡ cost value → value ≡ made key → IsAtRest eq made cost (with_fill eq s key price value)
+        pub rest-fill : ((a b : K) → eq a b ≡ true → a ≡ b) → price ≡ cost key value → value ≡ made key → IsAtRest eq made cost (with_fill eq s key price value)
         rest-fill same priced right =
             let less : State K V = record filled { entries = change (eq key) one_pin_less filled.entries } in
             let limits = limits-fill eq s key price value in
@@ -202,7 +207,7 @@ module _ {K V : Type 0} (eq : K → K → Bool) (laws : IsEquivalence eq) (made 
             let rests : AllRest less.entries = λ q status found.
             let looked = lookup-change eq laws key one_pin_less q filled.entries
             ∙ ap (λ (r : Option (Status V)). cond (eq q key) (option_map one_pin_less r) r) (lookup-to_front eq laws key (λ _. Ready 1 price value) q claimed.entries sound-claimed.apart) in
-            filled-again q price value (eq q key) (lookup (eq q) (room_for_one s).entries) (λ t. let costs : cost (made key) ≡ price = ap cost own ∙ sym priced in ap resting (same q key t) ∙ cc) (rest-room q) status (sym looked ∙ found) in
+            filled-again q price value (eq q key) (lookup (eq q) (room_for_one s).entries) (λ t. let costs : cost key (made key) ≡ price = ap (cost key) own ∙ sym priced in ap resting (same q key t) ∙ cc) (rest-room q) status (sym looked ∙ found) in
             rest-sound (with_fill eq s key price value) (sound-after eq laws filled (λ _. 1) 0 (Unpin key) sound-filled (omega arith))
             (rest-trim less (Apart-change eq laws key one_pin_less filled.entries sound-filled.apart) rests)
-            (limits.0 ∙ (rest.limit ∙ ap entry_limit (sym limits.1)))
+            (limits.0 ∙ (rest.limit ∙ ap entry_limit (sym limits.1))) (limits.2 ∙ rest.hard)

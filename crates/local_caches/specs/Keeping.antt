@@ -10,13 +10,14 @@ pub record LocalCacheView (K V T : Type 0) : Type 0 where
   pub entries : State K V
 
 -- Between calls. Each entry is ready: it has the value of its key, at its cost, and no pin holds it. So none is being made.
--- No two entries are of one key, and together they are within the budget and the limit that goes with it
-pub record IsAtRest {K V : Type 0} (eq : K → K → Bool) (made : K → V) (cost : V → ℕ) (s : State K V) : Type 0 where
-  pub ready : (key : K) (status : Status V) → status_of eq s key ≡ Some status → status ≡ Ready 0 (cost (made key)) (made key)
+-- No two entries are of one key, and together they are within the budget and the limit that goes with it; there is no hard limit
+pub record IsAtRest {K V : Type 0} (eq : K → K → Bool) (made : K → V) (cost : K → V → ℕ) (s : State K V) : Type 0 where
+  pub ready : (key : K) (status : Status V) → status_of eq s key ≡ Some status → status ≡ Ready 0 (cost key (made key)) (made key)
   pub apart : Apart eq s.entries
   pub in_budget : unpinned s.entries ≤ s.budget
   pub in_limit : length s.entries ≤ s.limit
   pub limit : s.limit ≡ entry_limit s.budget
+  pub hard : s.hard ≡ None
 
 module _ {K V : Type 0} (eq : K → K → Bool) where
   -- the key is asked for and hit, and the pin is given back

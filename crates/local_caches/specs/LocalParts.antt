@@ -1,6 +1,7 @@
 -- Public: the three caches of one thread.
 use Rattle.std.specs.Prelude.{◌≡◌, ℕ, List}
 use Rattle.std.specs.Arc.{arc_value}
+use Rattle.std.specs.declared.alloc.Global.{Global}
 use Rattle.std.specs.declared.sync.Arc.{Arc}
 use Rattle.ass_num.specs.Masks.{MaskValue}
 use Rattle.ass_num.specs.Regions.{RegionValue}
@@ -12,7 +13,8 @@ use Rattle.mask_keys.specs.Equality.{equal_regions, equal_masks, equal_composite
 use Rattle.mask_keys.specs.declared.composite_key.CompositeKey.{CompositeKey}
 use Rattle.mask_keys.specs.declared.mask_key.MaskKey.{MaskKey}
 use Rattle.mask_keys.specs.declared.region_key.RegionKey.{RegionKey}
-use Rattle.mask_keys.specs.Costs.{mask_cost, region_cost}
+use Rattle.cache_kinds.specs.Kinds.{composite_meaning, mask_meaning, region_meaning}
+use Rattle.flight_cache.specs.Meaning.{entry_cost}
 use Rattle.mask_keys.specs.Outlines.{IsFontSet}
 use Rattle.mask_keys.specs.Values.{composite_value, mask_value, region_value}
 use Rattle.cache_kinds.specs.Limits.{entry_limit}
@@ -38,9 +40,9 @@ no_entries fonts budget = record {
 
 -- Each entry of each cache is ready with the value of its key, no pin holds it and none is being made; and each cache is within the budget.
 pub record AreAtRest (caches : LocalCachesView) : Type 0 where
-  pub regions : IsAtRest equal_regions (region_value caches.fonts) region_cost caches.regions
-  pub masks : IsAtRest equal_masks (mask_value caches.fonts) mask_cost caches.masks
-  pub composites : IsAtRest equal_composites (composite_value caches.fonts) mask_cost caches.composites
+  pub regions : IsAtRest equal_regions (region_value caches.fonts) (entry_cost (region_meaning {Z = Global})) caches.regions
+  pub masks : IsAtRest equal_masks (mask_value caches.fonts) (entry_cost (mask_meaning {Z = Global})) caches.masks
+  pub composites : IsAtRest equal_composites (composite_value caches.fonts) (entry_cost (composite_meaning {Z = Global})) caches.composites
   pub regions_budget : caches.regions.budget ≡ caches.budget
   pub masks_budget : caches.masks.budget ≡ caches.budget
   pub composites_budget : caches.composites.budget ≡ caches.budget

@@ -4,13 +4,14 @@ ghost use Rattle.std.specs.Arc.{arc_value};
 ghost use Rattle.evict_core.specs.Machine.{Limits, max_budget, max_cost, max_entries, state_after, status_of};
 ghost use Rattle.evict_core.specs.History.{opening};
 ghost use Rattle.evict_core.specs.Asked.{ready_value};
+ghost use Rattle.flight_cache.specs.Meaning.{entry_cost};
 ghost use Rattle.local_caches.specs.Keeping.{IsAtRest, after_find, after_keep, with_fill};
 ghost use Rattle.cache_kinds.specs.Limits.{entry_limit};
 
 use ass_num::{Mem, OutOfMemory};
 use cache_kinds::entry_limit;
-use evict_core::{Ask, Entries};
-use flight_cache::Made;
+use evict_core::{Ask, Entries, Freed};
+use flight_cache::{Made, entry_cost};
 use std::alloc::Global;
 use std::marker::Model;
 use std::snapshot::Snapshot;
@@ -30,6 +31,7 @@ pub struct LocalCache<M: Made> {
 impl<M: Made> Model for LocalCache<M> {
     ghost use Rattle.local_caches.specs.Keeping.{LocalCacheView, IsAtRest};
     ghost use Rattle.local_caches.specs.Codes.{cache_code};
+    ghost use Rattle.flight_cache.specs.Meaning.{entry_cost};
 
     ghost Value = { LocalCacheView M.Key M.Value M.Tag };
 
@@ -37,7 +39,7 @@ impl<M: Made> Model for LocalCache<M> {
 
     ghost view = { λ c. record { tag = c.tag.value; entries = c.entries } };
 
-    ghost invariant = { λ c. IsAtRest M.Key.eq (M.meaning.made c.tag.value) M.meaning.cost c.entries };
+    ghost invariant = { λ c. IsAtRest M.Key.eq (M.meaning.made c.tag.value) (entry_cost M.meaning) c.entries };
 }
 
 impl<M: Made> LocalCache<M> {
@@ -67,7 +69,9 @@ impl<M: Made> LocalCache<M> {
     {
         match self.entries.ask(key) {
             Ask::Hit(value) => {
-                self.entries.unpin(key);
+                let mut freed = Freed::few();
+                self.entries.unpin(key, &mut freed);
+                drop(freed);
                 Ok(Some(value))
             }
             Ask::Claimable => Ok(None),
@@ -84,7 +88,7 @@ impl<M: Made> LocalCache<M> {
         requires cost { M.meaning.cost (arc_value value) ≤ max_cost }
         ensures value { IfOk result (λ v. arc_value v ≡ M.meaning.made self.old.tag key.now) }
         ensures entries { OnOk result (self.new.entries
-            ≡ after_keep M.Key.eq self.old.entries key.now (M.meaning.cost (arc_value value)) (arc_value value) (status_of M.Key.eq self.old.entries key.now)) }
+            ≡ after_keep M.Key.eq self.old.entries key.now (entry_cost M.meaning key.now (arc_value value)) (arc_value value) (status_of M.Key.eq self.old.entries key.now)) }
         ensures tag { self.new.tag ≡ self.old.tag }
         ensures budget { self.new.entries.budget ≡ self.old.entries.budget }
         ensures err { OnErr result (self.new ≡ self.old) }
@@ -102,12 +106,15 @@ impl<M: Made> LocalCache<M> {
         ensures tag { self.new.tag ≡ self.old.tag }
         ensures budget { self.new.entries.budget ≡ budget }
     {
-        self.entries.set_limits(entry_limit(budget), budget);
+        let mut freed = Freed::few();
+        self.entries
+            .set_limits(entry_limit(budget), budget, &mut freed);
+        drop(freed);
     }
 
     /// The entries are at rest between calls.
     pub fn proof_at_rest(&self)
-        ensures { IsAtRest M.Key.eq (M.meaning.made self.now.tag) M.meaning.cost self.now.entries }
+        ensures { IsAtRest M.Key.eq (M.meaning.made self.now.tag) (entry_cost M.meaning) self.now.entries }
     {
         let _ = &self.entries;
     }
@@ -118,17 +125,19 @@ impl<M: Made> LocalCache<M> {
         requires value { arc_value value ≡ M.meaning.made self.old.tag key.now }
         requires cost { M.meaning.cost (arc_value value) ≤ max_cost }
         ensures value { IfOk result (λ v. arc_value v ≡ M.meaning.made self.old.tag key.now) }
-        ensures entries { OnOk result (self.new.entries ≡ with_fill M.Key.eq self.old.entries key.now (M.meaning.cost (arc_value value)) (arc_value value)) }
+        ensures entries { OnOk result (self.new.entries ≡ with_fill M.Key.eq self.old.entries key.now (entry_cost M.meaning key.now (arc_value value)) (arc_value value)) }
         ensures tag { self.new.tag ≡ self.old.tag }
         ensures budget { self.new.entries.budget ≡ self.old.entries.budget }
         ensures err { OnErr result (self.new ≡ self.old) }
     {
         let copy = M::copy(alloc, key)?;
         let kept = Arc::try_clone(&value)?;
-        let cost = M::cost(&kept);
-        self.entries.claim(copy, OWN_NUMBER)?;
+        let cost = entry_cost::<M>(key, &kept);
+        let mut freed = Freed::few();
+        self.entries.claim(copy, OWN_NUMBER, &mut freed)?;
         self.entries.fill(key, kept, cost);
-        self.entries.unpin(key);
+        self.entries.unpin(key, &mut freed);
+        drop(freed);
         Ok(value)
     }
 }

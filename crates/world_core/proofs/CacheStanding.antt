@@ -16,7 +16,7 @@ use Rattle.evict_core.proofs.HistoryLemmas.{replay-append, taken-more, given-mor
 use Rattle.evict_core.specs.Asked.{ready_value}
 use Rattle.evict_core.proofs.LegalLemmas.{none-is-legal, more-is-legal, ready-was-filled}
 use Rattle.evict_core.proofs.PinLaws.{flies-where-pending, held-are-pins, given-were-taken}
-use Rattle.flight_cache.specs.Meaning.{Meaning}
+use Rattle.flight_cache.specs.Meaning.{Meaning, entry_cost}
 use Rattle.world_core.specs.declared.holding.Holding.{Holding}
 use Rattle.world_core.specs.Holdings.{is_held_by, count_held}
 use Rattle.world_core.specs.Caches.{ActorCachesView, no_shards, shard_in, with_shard, after_answer, answer_in, filled, failed, unpinned_at, with_limits}
@@ -239,8 +239,8 @@ module _ {K V T : Type 0} (eq : K → K → Bool) (laws : IsEquivalence eq) (mea
         tickets-less actor shard key = counts-end (h.actor == actor) (h.shard == shard) (eq key h.key) (is_pending eq (histories shard) actor key) (count_held eq actor shard key (remove s.tickets place))
             (count-less eq laws actor shard key s.tickets place h is ∙ stand.tickets actor shard key)
 
-        pub stand-fill : h.shard < length s.shards → StandFor eq meaning (filled eq meaning place h s) limits (entry_in_shard histories h.shard (h.actor, Fill h.key (meaning.cost (meaning.made s.tag h.key)) (meaning.made s.tag h.key)))
-        stand-fill within = stand-step h.shard h.actor (Fill h.key (meaning.cost (meaning.made s.tag h.key)) (meaning.made s.tag h.key)) (filled eq meaning place h s) (record {
+        pub stand-fill : h.shard < length s.shards → StandFor eq meaning (filled eq meaning place h s) limits (entry_in_shard histories h.shard (h.actor, Fill h.key (entry_cost meaning h.key (meaning.made s.tag h.key)) (meaning.made s.tag h.key)))
+        stand-fill within = stand-step h.shard h.actor (Fill h.key (entry_cost meaning h.key (meaning.made s.tag h.key)) (meaning.made s.tag h.key)) (filled eq meaning place h s) (record {
           within = within;
           follows = ticket-follows;
           right = (refl, refl);

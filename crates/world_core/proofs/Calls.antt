@@ -8,7 +8,7 @@ use Rattle.std.proofs.lemmas.Option.{slice_get_read, get_or_from_slice_get}
 use Rattle.evict_core.specs.Machine.{State, Answer, Hit, Claim, Crowded, Step, Ask, Fill, Fail, Unpin, Limits, max_entries, max_budget, maker_in, pins_in, status_of, ask_answer, state_after}
 use Rattle.evict_core.specs.Asked.{ready_value}
 use Rattle.evict_core.specs.History.{opening}
-use Rattle.flight_cache.specs.Meaning.{Meaning}
+use Rattle.flight_cache.specs.Meaning.{Meaning, entry_cost}
 use Rattle.world_core.specs.declared.holding.Holding.{Holding}
 use Rattle.world_core.specs.Caches.{ActorCachesView, shard_in, with_shard, after_answer, answer_in, asked, filled, failed, unpinned_at, with_limits}
 use Rattle.world_core.specs.CacheLaws.{HaveHistories}
@@ -143,17 +143,17 @@ module _ {K V T : Type 0} (eq : K → K → Bool) (laws : IsEquivalence eq) (mea
               stand = stand-fail eq laws meaning s have.limits have.histories have.stand place h ticket ticket-shard;
             })
 
-          module _ (pins : List (Holding K)) (pushed : pins ≡ s.pins ++ h ∷ []) (cost : ℕ) (value : V) (priced : cost ≡ meaning.cost value)
+          module _ (pins : List (Holding K)) (pushed : pins ≡ s.pins ++ h ∷ []) (cost : ℕ) (value : V) (priced : cost ≡ entry_cost meaning h.key value)
               (made : (x : Holding K) → slice_get t.tickets place ≡ Some x → value ≡ meaning.made t.tag x.key) (after : new ≡ state_after eq old h.actor (Fill h.key cost value)) where
             own-value : value ≡ meaning.made s.tag h.key
             own-value = made h (ap (λ (v : ActorCachesView K V T). slice_get v.tickets place) (sym view) ∙ ticket) ∙ ap (λ (v : ActorCachesView K V T). meaning.made v.tag h.key) (sym view)
 
-            fill-after : new ≡ state_after eq old h.actor (Fill h.key (meaning.cost (meaning.made s.tag h.key)) (meaning.made s.tag h.key))
-            fill-after = after ∙ (ap (λ (c : ℕ). state_after eq old h.actor (Fill h.key c value)) priced ∙ ap (λ (v : V). state_after eq old h.actor (Fill h.key (meaning.cost v) v)) own-value)
+            fill-after : new ≡ state_after eq old h.actor (Fill h.key (entry_cost meaning h.key (meaning.made s.tag h.key)) (meaning.made s.tag h.key))
+            fill-after = after ∙ (ap (λ (c : ℕ). state_after eq old h.actor (Fill h.key c value)) priced ∙ ap (λ (v : V). state_after eq old h.actor (Fill h.key (entry_cost meaning h.key v) v)) own-value)
 
             fill-fields : Fields s.tag (slice_set s.shards h.shard new) tickets pins ≡ filled eq meaning place h s
             fill-fields =
-                same-fields s.tag _ _ tickets _ pins _ (set-shard h.shard h.actor (Fill h.key (meaning.cost (meaning.made s.tag h.key)) (meaning.made s.tag h.key)) old new ticket-shard is fill-after) spent pushed
+                same-fields s.tag _ _ tickets _ pins _ (set-shard h.shard h.actor (Fill h.key (entry_cost meaning h.key (meaning.made s.tag h.key)) (meaning.made s.tag h.key)) old new ticket-shard is fill-after) spent pushed
 
             pub is-filled : (x : Holding K) → slice_get t.tickets place ≡ Some x → Fields s.tag (slice_set s.shards h.shard new) tickets pins ≡ filled eq meaning place x t
             is-filled x there = fill-fields ∙ (ap (filled eq meaning place h) view ∙ ap (λ (y : Holding K). filled eq meaning place y t) (same-ticket x there))
@@ -161,7 +161,7 @@ module _ {K V T : Type 0} (eq : K → K → Bool) (laws : IsEquivalence eq) (mea
             pub have-filled : HaveHistories eq meaning (Fields s.tag (slice_set s.shards h.shard new) tickets pins)
             have-filled = subst (HaveHistories eq meaning) (sym fill-fields) (record {
               limits = have.limits;
-              histories = entry_in_shard have.histories h.shard (h.actor, Fill h.key (meaning.cost (meaning.made s.tag h.key)) (meaning.made s.tag h.key));
+              histories = entry_in_shard have.histories h.shard (h.actor, Fill h.key (entry_cost meaning h.key (meaning.made s.tag h.key)) (meaning.made s.tag h.key));
               stand = stand-fill eq laws meaning s have.limits have.histories have.stand place h ticket ticket-shard;
             })
 

@@ -4,7 +4,7 @@ use Rattle.turn_cell.specs.History.{History}
 use Rattle.evict_core.specs.Machine.{Answer, Step, Ask, Fill, Fail, Unpin, Limits, max_entries, max_budget, maker_in, pins_in, unpinned, has_idle, status_of}
 use Rattle.evict_core.specs.History.{opening, one_if}
 use Rattle.evict_core.specs.Asked.{ready_value}
-use Rattle.flight_cache.specs.Meaning.{Meaning}
+use Rattle.flight_cache.specs.Meaning.{Meaning, entry_cost}
 use Rattle.world_core.specs.declared.holding.Holding.{Holding}
 use Rattle.world_core.specs.Holdings.{count_held, count_all}
 use Rattle.world_core.specs.Caches.{ActorCachesView, shard_in, answer_in, asked, filled, failed, unpinned_at, with_limits}
@@ -36,7 +36,7 @@ module _ {K V T : Type 0} (eq : K → K → Bool) (meaning : Meaning K V T) wher
   abbrev pub FilledStand : Type 0
   FilledStand = (s : ActorCachesView K V T) (limits : ℕ → ℕ × ℕ) (histories : ℕ → History (Step K V)) → StandFor eq meaning s limits histories
       → (place : ℕ) (h : Holding K) → slice_get s.tickets place ≡ Some h
-      → StandFor eq meaning (filled eq meaning place h s) limits (entry_in_shard histories h.shard (h.actor, Fill h.key (meaning.cost (meaning.made s.tag h.key)) (meaning.made s.tag h.key)))
+      → StandFor eq meaning (filled eq meaning place h s) limits (entry_in_shard histories h.shard (h.actor, Fill h.key (entry_cost meaning h.key (meaning.made s.tag h.key)) (meaning.made s.tag h.key)))
 
   abbrev pub FailedStand : Type 0
   FailedStand = (s : ActorCachesView K V T) (limits : ℕ → ℕ × ℕ) (histories : ℕ → History (Step K V)) → StandFor eq meaning s limits histories

@@ -3,7 +3,7 @@ use Rattle.std.specs.Prelude.{ℕ, Bool, List, [], ◌∷◌, ◌++◌, Option, 
 use Rattle.std.specs.List.{remove}
 use Rattle.evict_core.specs.Machine.{State, Answer, Hit, Claim, Crowded, Step, Ask, Fill, Fail, Unpin, Limits, ask_answer, state_after}
 use Rattle.evict_core.specs.History.{opening}
-use Rattle.flight_cache.specs.Meaning.{Meaning}
+use Rattle.flight_cache.specs.Meaning.{Meaning, entry_cost}
 use Rattle.world_core.specs.declared.holding.Holding.{Holding}
 
 -- what all values are made from besides their keys, the entries of each shard, and the tickets and pins of all actors
@@ -48,7 +48,7 @@ module _ {K V T : Type 0} (eq : K → K → Bool) where
   -- The ticket at this place is spent for the key's value, and its actor has a pin of it
   abbrev pub filled : Meaning K V T → ℕ → Holding K → ActorCachesView K V T → ActorCachesView K V T
   filled meaning place h s = let value = meaning.made s.tag h.key in
-      record (with_step h.shard h.actor (Fill h.key (meaning.cost value) value) s) { tickets = remove s.tickets place; pins = s.pins ++ h ∷ [] }
+      record (with_step h.shard h.actor (Fill h.key (entry_cost meaning h.key value) value) s) { tickets = remove s.tickets place; pins = s.pins ++ h ∷ [] }
 
   -- the ticket at this place is spent for nothing
   abbrev pub failed : ℕ → Holding K → ActorCachesView K V T → ActorCachesView K V T

@@ -2,7 +2,7 @@
 use Rattle.std.specs.Prelude.{ℕ, ◌+◌, List, [], ◌∷◌, ◌++◌, Option, Some, None, slice_get, slice_index_or}
 use Rattle.turn_cell.specs.History.{History}
 use Rattle.evict_core.specs.Machine as machine
-use Rattle.flight_cache.specs.Meaning.{Meaning}
+use Rattle.flight_cache.specs.Meaning.{Meaning, entry_cost}
 use Rattle.flight_cache.specs.Shards.{part}
 use Rattle.cache_kinds.specs.Limits.{entry_limit}
 use Rattle.world_core.specs.Caches.{answer_in}
@@ -41,7 +41,7 @@ module _ {T : Type 0} (meaning : Meaning WorldKey WorldValue T) where
 
   -- the fill of a ticket's key
   abbrev pub fill_of : WorldState T → Holding WorldKey → machine.Step WorldKey WorldValue
-  fill_of s h = let value = meaning.made s.caches.tag h.key in machine.Fill h.key (meaning.cost value) value
+  fill_of s h = let value = meaning.made s.caches.tag h.key in machine.Fill h.key (entry_cost meaning h.key value) value
 
   -- with what a step made in that state is in the shards' histories
   abbrev pub with_step_of : WorldState T → Step → ShardHistories → ShardHistories

@@ -37,7 +37,7 @@ world_numbers (key.Mask k) = mask_numbers k
 world_numbers (key.Composite k) = composite_numbers k
 
 abbrev pub world_meaning : {Z : Type 0} → Meaning WorldKey WorldValue (Arc FontSet Z)
-world_meaning = record { made = λ set k. world_value (arc_value set).fonts k; cost = world_cost; numbers = world_numbers }
+world_meaning = record { made = λ set k. world_value (arc_value set).fonts k; cost = world_cost; numbers = world_numbers; rank = λ k. 0 }
 
 abbrev pub key_kind : WorldKey → ValueKind
 key_kind (key.Outline k) = kind.Outline

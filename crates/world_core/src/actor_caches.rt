@@ -11,8 +11,8 @@ ghost use Rattle.world_core.specs.declared.holding.Holding.{Holding};
 use crate::answer::ActorAnswer;
 use crate::holding::Holding;
 use ass_num::{Mem, OutOfMemory};
-use evict_core::{Ask, Entries};
-use flight_cache::Made;
+use evict_core::{Ask, Entries, Freed};
+use flight_cache::{Made, entry_cost};
 use std::alloc::Global;
 use std::marker::Model;
 use std::snapshot::Snapshot;
@@ -122,7 +122,10 @@ impl<M: Made> ActorCaches<M> {
     {
         let key = M::copy(alloc, &holding.key)?;
         self.tickets.reserve(1)?;
-        self.shards[holding.shard].claim(key, holding.actor)?;
+        let mut freed = Freed::few();
+        let claimed = self.shards[holding.shard].claim(key, holding.actor, &mut freed);
+        drop(freed);
+        claimed?;
         self.tickets.push_reserved(holding);
         Ok(ActorAnswer::Claim)
     }
@@ -136,8 +139,8 @@ impl<M: Made> ActorCaches<M> {
         ensures err { OnErr result (self.new ≡ self.old) }
     {
         self.pins.reserve(1)?;
-        let cost = M::cost(&value);
         let holding = self.tickets.remove(place);
+        let cost = entry_cost::<M>(&holding.key, &value);
         self.shards[holding.shard].fill(&holding.key, value, cost);
         self.pins.push_reserved(holding);
         Ok(())
@@ -149,7 +152,9 @@ impl<M: Made> ActorCaches<M> {
         ensures { (h : Holding M.Key) → slice_get self.old.tickets place ≡ Some h → self.new ≡ failed M.Key.eq place h self.old }
     {
         let holding = self.tickets.remove(place);
-        self.shards[holding.shard].fail(&holding.key);
+        let mut freed = Freed::few();
+        self.shards[holding.shard].fail(&holding.key, &mut freed);
+        drop(freed);
     }
 
     /// Gives the pin at this place back, and then as few entries are evicted as the shard's limits want. It takes no memory.
@@ -158,7 +163,9 @@ impl<M: Made> ActorCaches<M> {
         ensures { (h : Holding M.Key) → slice_get self.old.pins place ≡ Some h → self.new ≡ unpinned_at M.Key.eq place h self.old }
     {
         let holding = self.pins.remove(place);
-        self.shards[holding.shard].unpin(&holding.key);
+        let mut freed = Freed::few();
+        self.shards[holding.shard].unpin(&holding.key, &mut freed);
+        drop(freed);
     }
 
     /// New limits of a shard, the entries from 1 to 65,536 and the budget at most 2^40, and then as few entries are evicted as
@@ -170,7 +177,9 @@ impl<M: Made> ActorCaches<M> {
         requires budget { budget ≤ max_budget }
         ensures { self.new ≡ with_limits M.Key.eq shard entries budget self.old }
     {
-        self.shards[shard].set_limits(entries, budget);
+        let mut freed = Freed::few();
+        self.shards[shard].set_limits(entries, budget, &mut freed);
+        drop(freed);
     }
 
     /// The value of a key of a shard, where it is made. It is made from the tag and the key.

@@ -3,15 +3,16 @@ use Rattle.std.specs.Arc.{arc_value}
 use Rattle.evict_core.specs.Asked.{ready_value}
 use Rattle.evict_core.proofs.StateLemmas.{claim-has-room}
 use Rattle.local_caches.proofs.Resting.{found-value, hit-pinned, limits-hit, never-crowded, never-flying, rest-hit}
+use Rattle.flight_cache.specs.Meaning.{entry_cost}
 use Rattle.local_caches.proofs.cache.LocalCache.find.Goals as goal
 
 pub unpin-requires : goal.unpin-requires
 unpin-requires g c =
-    rw (c.in-Hit.ensures.2 0) (hit-pinned g.M.Key.PartialEq.eq g.met.M.Key.Eq.laws (g.M.Made.meaning.made c.self.inside.tag.value) g.M.Made.meaning.cost c.self.inside.entries c.self.invariant c.args.key.now c.in-Hit.ensures.0)
+    rw (c.in-Hit.ensures.2 0) (hit-pinned g.M.Key.PartialEq.eq g.met.M.Key.Eq.laws (g.M.Made.meaning.made c.self.inside.tag.value) (entry_cost g.M.Made.meaning) c.self.inside.entries c.self.invariant c.args.key.now c.in-Hit.ensures.0)
 
 pub invariant_of-self : goal.invariant_of-self
 invariant_of-self g c =
-    rw (c.unpin.ensures 0, c.in-Hit.ensures.2 0) (rest-hit g.M.Key.PartialEq.eq g.met.M.Key.Eq.laws (g.M.Made.meaning.made c.self.inside.tag.value) g.M.Made.meaning.cost c.self.inside.entries c.self.invariant c.args.key.now c.in-Hit.ensures.0)
+    rw (c.unpin.ensures 0, c.in-Hit.ensures.2 0) (rest-hit g.M.Key.PartialEq.eq g.met.M.Key.Eq.laws (g.M.Made.meaning.made c.self.inside.tag.value) (entry_cost g.M.Made.meaning) c.self.inside.entries c.self.invariant c.args.key.now c.in-Hit.ensures.0)
 
 pub invariant_of-self-in-Claimable : goal.invariant_of-self-in-Claimable
 invariant_of-self-in-Claimable g c = rw c.in-Claimable.ensures.1 c.self.invariant
@@ -21,7 +22,7 @@ invariant_of-self-in-Flying g c = rw c.in-Flying.ensures.1 c.self.invariant
 
 pub invariant_of-self-in-Crowded : goal.invariant_of-self-in-Crowded
 invariant_of-self-in-Crowded g c =
-    absurd (never-crowded g.M.Key.PartialEq.eq g.met.M.Key.Eq.laws (g.M.Made.meaning.made c.self.inside.tag.value) g.M.Made.meaning.cost c.self.inside.entries c.self.invariant c.args.key.now c.in-Crowded.ensures.0)
+    absurd (never-crowded g.M.Key.PartialEq.eq g.met.M.Key.Eq.laws (g.M.Made.meaning.made c.self.inside.tag.value) (entry_cost g.M.Made.meaning) c.self.inside.entries c.self.invariant c.args.key.now c.in-Crowded.ensures.0)
 
 pub invariant_of-self-in-OutOfMemory : goal.invariant_of-self-in-OutOfMemory
 invariant_of-self-in-OutOfMemory g c = rw c.in-OutOfMemory.ensures.1 c.self.invariant
@@ -31,7 +32,7 @@ returns-in-Hit-clause-here g c = rw (← c.self.view_is) (sym c.in-Hit.ensures.1
 
 pub returns-in-Hit-clause-value : goal.returns-in-Hit-clause-value
 returns-in-Hit-clause-value g c =
-    rw (← c.self.view_is) (found-value g.M.Key.PartialEq.eq g.met.M.Key.Eq.laws (g.M.Made.meaning.made c.self.inside.tag.value) g.M.Made.meaning.cost c.self.inside.entries c.self.invariant c.args.key.now (arc_value c.in-Hit.value) c.in-Hit.ensures.1)
+    rw (← c.self.view_is) (found-value g.M.Key.PartialEq.eq g.met.M.Key.Eq.laws (g.M.Made.meaning.made c.self.inside.tag.value) (entry_cost g.M.Made.meaning) c.self.inside.entries c.self.invariant c.args.key.now (arc_value c.in-Hit.value) c.in-Hit.ensures.1)
 
 pub returns-in-Hit-clause-entries : goal.returns-in-Hit-clause-entries
 returns-in-Hit-clause-entries g c = rw (← c.self.view_is, c.unpin.ensures 0, c.in-Hit.ensures.2 0) refl
@@ -48,27 +49,27 @@ returns-in-Claimable-clause-absent g c = rw (← c.self.view_is) (claim-has-room
 
 pub returns-in-Flying-clause-here : goal.returns-in-Flying-clause-here
 returns-in-Flying-clause-here g c =
-    absurd (never-flying g.M.Key.PartialEq.eq g.met.M.Key.Eq.laws (g.M.Made.meaning.made c.self.inside.tag.value) g.M.Made.meaning.cost c.self.inside.entries c.self.invariant c.args.key.now c.in-Flying.field-0 c.in-Flying.ensures.0)
+    absurd (never-flying g.M.Key.PartialEq.eq g.met.M.Key.Eq.laws (g.M.Made.meaning.made c.self.inside.tag.value) (entry_cost g.M.Made.meaning) c.self.inside.entries c.self.invariant c.args.key.now c.in-Flying.field-0 c.in-Flying.ensures.0)
 
 pub returns-in-Flying-clause-absent : goal.returns-in-Flying-clause-absent
 returns-in-Flying-clause-absent g c =
-    absurd (never-flying g.M.Key.PartialEq.eq g.met.M.Key.Eq.laws (g.M.Made.meaning.made c.self.inside.tag.value) g.M.Made.meaning.cost c.self.inside.entries c.self.invariant c.args.key.now c.in-Flying.field-0 c.in-Flying.ensures.0)
+    absurd (never-flying g.M.Key.PartialEq.eq g.met.M.Key.Eq.laws (g.M.Made.meaning.made c.self.inside.tag.value) (entry_cost g.M.Made.meaning) c.self.inside.entries c.self.invariant c.args.key.now c.in-Flying.field-0 c.in-Flying.ensures.0)
 
 pub returns-in-Crowded-clause-here : goal.returns-in-Crowded-clause-here
 returns-in-Crowded-clause-here g c =
-    absurd (never-crowded g.M.Key.PartialEq.eq g.met.M.Key.Eq.laws (g.M.Made.meaning.made c.self.inside.tag.value) g.M.Made.meaning.cost c.self.inside.entries c.self.invariant c.args.key.now c.in-Crowded.ensures.0)
+    absurd (never-crowded g.M.Key.PartialEq.eq g.met.M.Key.Eq.laws (g.M.Made.meaning.made c.self.inside.tag.value) (entry_cost g.M.Made.meaning) c.self.inside.entries c.self.invariant c.args.key.now c.in-Crowded.ensures.0)
 
 pub returns-in-Crowded-clause-absent : goal.returns-in-Crowded-clause-absent
 returns-in-Crowded-clause-absent g c =
-    absurd (never-crowded g.M.Key.PartialEq.eq g.met.M.Key.Eq.laws (g.M.Made.meaning.made c.self.inside.tag.value) g.M.Made.meaning.cost c.self.inside.entries c.self.invariant c.args.key.now c.in-Crowded.ensures.0)
+    absurd (never-crowded g.M.Key.PartialEq.eq g.met.M.Key.Eq.laws (g.M.Made.meaning.made c.self.inside.tag.value) (entry_cost g.M.Made.meaning) c.self.inside.entries c.self.invariant c.args.key.now c.in-Crowded.ensures.0)
 
 pub returns-in-Crowded-clause-entries : goal.returns-in-Crowded-clause-entries
 returns-in-Crowded-clause-entries g c =
-    absurd (never-crowded g.M.Key.PartialEq.eq g.met.M.Key.Eq.laws (g.M.Made.meaning.made c.self.inside.tag.value) g.M.Made.meaning.cost c.self.inside.entries c.self.invariant c.args.key.now c.in-Crowded.ensures.0)
+    absurd (never-crowded g.M.Key.PartialEq.eq g.met.M.Key.Eq.laws (g.M.Made.meaning.made c.self.inside.tag.value) (entry_cost g.M.Made.meaning) c.self.inside.entries c.self.invariant c.args.key.now c.in-Crowded.ensures.0)
 
 pub returns-in-Crowded-clause-budget : goal.returns-in-Crowded-clause-budget
 returns-in-Crowded-clause-budget g c =
-    absurd (never-crowded g.M.Key.PartialEq.eq g.met.M.Key.Eq.laws (g.M.Made.meaning.made c.self.inside.tag.value) g.M.Made.meaning.cost c.self.inside.entries c.self.invariant c.args.key.now c.in-Crowded.ensures.0)
+    absurd (never-crowded g.M.Key.PartialEq.eq g.met.M.Key.Eq.laws (g.M.Made.meaning.made c.self.inside.tag.value) (entry_cost g.M.Made.meaning) c.self.inside.entries c.self.invariant c.args.key.now c.in-Crowded.ensures.0)
 
 pub returns-in-Claimable-clause-entries : goal.returns-in-Claimable-clause-entries
 returns-in-Claimable-clause-entries g c = rw (← c.self.view_is) c.in-Claimable.ensures.1
