@@ -5,15 +5,16 @@ use Rattle.std.proofs.lemmas.List.{append-nil}
 use Rattle.std.proofs.lemmas.List.Elements.{filter-append}
 use Rattle.turn_cell.specs.Passes.{Follows, mine}
 use Rattle.turn_cell.proofs.Passes.{Follows_same}
-use Rattle.evict_core.specs.Machine.{Step, Answer, Hit, Claim, Crowded, Ask, Fill, Fail, Unpin}
+use Rattle.evict_core.specs.Machine.{Step, Answer, Hit, Claim, Crowded, Ask, Fill, Fail, Spill, Unpin}
 use Rattle.evict_core.specs.History.{takes, gives, pins_taken, pins_given, pins_left, is_open_after, is_open_in, has_open}
 use Rattle.evict_core.proofs.HistoryLemmas.{taken-append, given-append, open-append}
 use Rattle.flight_cache.specs.Meaning.{Meaning, shard_of, shard_count}
 use Rattle.flight_cache.specs.Histories.{step_of}
 use Rattle.flight_cache.specs.Calls.{ShardView, ShardPassView, GivesSteps, own_steps}
-use Rattle.flight_cache.specs.Shards.{Shards, CacheView, CachePassView, IsCacheOf, at, with_at}
+use Rattle.flight_cache.specs.Shards.{Shards, CacheView, CachePassView, EachGives, IsCacheOf, at, with_at}
 use Rattle.flight_cache.specs.Laws.{IsLater}
-use Rattle.flight_cache.proofs.Rows.{gives_follow, gives_own_steps, call_is_later, later_is_later, stays_of_cache}
+use Rattle.flight_cache.proofs.Rows.{each_is_later, gives_follow, gives_own_steps, call_is_later, later_is_later, stays_of_cache}
+use Rattle.flight_cache.proofs.Four.{at-each}
 use Rattle.flight_cache.proofs.Refusing.{below-four}
 use Rattle.mask_caches.specs.Adding.{Adds, GaveIn, shard_of_step, steps_of_shard, pins_of, is_open}
 
@@ -60,6 +61,9 @@ module _ {K V T : Type 0} (eq : K → K → Bool) (same : (a b : K) → eq a b �
 
   fail-of : (key : K) → IsOfKey key (Fail key)
   fail-of key = record { at_shard = refl; takes_none = λ k f. refl; gives_none = λ k f. refl; leaves = λ k was f. rw f refl }
+
+  spill-of : (key : K) (cost : ℕ) → IsOfKey key (Spill key cost)
+  spill-of key cost = record { at_shard = refl; takes_none = λ k f. refl; gives_none = λ k f. refl; leaves = λ k was f. rw f refl }
 
   unpin-of : (key : K) → IsOfKey key (Unpin key)
   unpin-of key = record { at_shard = refl; takes_none = λ k f. refl; gives_none = λ k f. rw f refl; leaves = λ k was f. refl }
@@ -141,6 +145,9 @@ module _ {K V T : Type 0} (eq : K → K → Bool) (same : (a b : K) → eq a b �
   pub adds-fail : (key : K) (p q : CachePassView K T) → CallOf key p q (Fail key) → Adds eq meaning cache p q (Fail key ∷ [])
   adds-fail key p q c = adds-one p q key (Fail key) (fail-of key) c.0 c.1
 
+  pub adds-spill : (key : K) (cost : ℕ) (p q : CachePassView K T) → CallOf key p q (Spill key cost) → Adds eq meaning cache p q (Spill key cost ∷ [])
+  adds-spill key cost p q c = adds-one p q key (Spill key cost) (spill-of key cost) c.0 c.1
+
   pub adds-unpin : (key : K) (p q : CachePassView K T) → CallOf key p q (Unpin key) → Adds eq meaning cache p q (Unpin key ∷ [])
   adds-unpin key p q c = adds-one p q key (Unpin key) (unpin-of key) c.0 c.1
 
@@ -160,6 +167,22 @@ module _ {K V T : Type 0} (eq : K → K → Bool) (meaning : Meaning K V T) (cac
     fourth = none-in 3 cache.shards.fourth p.fourth;
     pins = λ key. refl;
     claims = λ key. refl;
+  }
+
+  -- turns of all shards that gave nothing
+  pub adds-each-none : (p q : CachePassView K T) → EachGives eq meaning cache.shards p q (λ n. []) → Adds eq meaning cache p q []
+  adds-each-none p q g = record {
+    later = each_is_later eq meaning cache.shards p q (λ n. []) g;
+    first = gives_own_steps eq meaning cache.shards.first p.first q.first [] g.first;
+    second = gives_own_steps eq meaning cache.shards.second p.second q.second [] g.second;
+    third = gives_own_steps eq meaning cache.shards.third p.third q.third [] g.third;
+    fourth = gives_own_steps eq meaning cache.shards.fourth p.fourth q.fourth [] g.fourth;
+    pins = λ key. let n = shard_of (meaning.numbers key) in
+        at-each (λ (shard : ShardView T) (a b : ShardPassView K T). pins_left eq (own_steps meaning shard.tag b) key + 0 ≡ pins_left eq (own_steps meaning shard.tag a) key + 0) cache.shards p q
+        (g.first.pins key) (g.second.pins key) (g.third.pins key) (g.fourth.pins key) n (below-four (meaning.numbers key));
+    claims = λ key. let n = shard_of (meaning.numbers key) in
+        at-each (λ (shard : ShardView T) (a b : ShardPassView K T). has_open eq (own_steps meaning shard.tag b) key ≡ has_open eq (own_steps meaning shard.tag a) key) cache.shards p q
+        (g.first.claims key) (g.second.claims key) (g.third.claims key) (g.fourth.claims key) n (below-four (meaning.numbers key));
   }
 
   more-in : (n : ℕ) (shard : ShardView T) (p q r : ShardPassView K T) (xs ys : List (Step K V)) → GaveIn meaning n shard p q xs → GaveIn meaning n shard q r ys → GaveIn meaning n shard p r (xs ++ ys)

@@ -9,7 +9,7 @@ use Rattle.flight_cache.specs.Shards.{CacheView, CachePassView, at, with_at}
 use Rattle.flight_cache.specs.declared.pins.Asked.{Asked}
 use Rattle.flight_cache.specs.declared.pins.Asked.TheVariants.{Hit, Make, OutOfMemory}
 use Rattle.mask_caches.specs.Adding.{Adds, is_open}
-use Rattle.mask_caches.specs.Courses.{IsForKey, IsNewClaim, asked_steps}
+use Rattle.mask_caches.specs.Courses.{IsForKey, IsNewClaim, IsUnaskedBy, asked_steps}
 use Rattle.mask_caches.proofs.Adding.{adds-ask, adds-nothing}
 use Rattle.mask_caches.proofs.Closing.{closed-before}
 
@@ -36,3 +36,8 @@ module _ {M K V T : Type 0} (eq : K → K → Bool) (laws : IsEquivalence eq) (s
       subst (λ (k : K). is_open eq meaning cache pass k ≡ false) (sym asked.1) (closed-before eq laws meaning (at cache.shards n) (at pass n) (at after n) key asked.0)
   ask-new (Make None) asked = tt
   ask-new OutOfMemory asked = tt
+
+  pub ask-short : (answer : Asked M K V T) → IsAnswer answer → IsUnaskedBy eq meaning cache pass key after answer
+  ask-short (Hit pin) asked = tt
+  ask-short (Make duty) asked = tt
+  ask-short OutOfMemory asked = asked

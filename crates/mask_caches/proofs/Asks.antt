@@ -5,7 +5,7 @@ use Rattle.std.proofs.lemmas.List.{map-append}
 use Rattle.std.proofs.lemmas.List.Elements.{All-head, All-tail}
 use Rattle.std.proofs.lemmas.List.Sums.{sum_by-append, sum_by-cons}
 use Rattle.turn_cell.specs.Passes.{Follows, mine}
-use Rattle.evict_core.specs.Machine.{Step, Ask, PinAll, Fill, Fail, Unpin, Limits}
+use Rattle.evict_core.specs.Machine.{Step, Ask, PinAll, Fill, Fail, Spill, Unpin, Limits, Hard}
 use Rattle.flight_cache.specs.Calls.{ShardPassView, ShardView, own_steps}
 use Rattle.flight_cache.specs.Histories.{step_of}
 use Rattle.flight_cache.specs.Laws.{IsLater}
@@ -26,8 +26,10 @@ module _ {K V : Type 0} where
   IsOfOne (PinAll keys) = ⊥
   IsOfOne (Fill key cost value) = Unit {0}
   IsOfOne (Fail key) = Unit {0}
+  IsOfOne (Spill key cost) = Unit {0}
   IsOfOne (Unpin key) = Unit {0}
   IsOfOne (Limits entries budget) = Unit {0}
+  IsOfOne (Hard hard) = Unit {0}
 
   filter_asks : (test : Step K V → Bool) (s : Step K V) (steps : List (Step K V)) → asks_of (filter test (s ∷ steps)) ≡ cond (test s) (asks_in s) 0 + asks_of (filter test steps)
   filter_asks test s steps = elim (test s) as (λ b. asks_of (cond b (s ∷ filter test steps) (filter test steps)) ≡ cond b (asks_in s) 0 + asks_of (filter test steps)) [
@@ -50,8 +52,10 @@ module _ {K V T : Type 0} (meaning : Meaning K V T) where
   asks_in_one (PinAll keys) one = absurd one
   asks_in_one (Fill key cost value) one = one_of_four (shard_of_step meaning (Fill key cost value)) 0 (below-four (meaning.numbers key))
   asks_in_one (Fail key) one = one_of_four (shard_of_step {V = V} meaning (Fail key)) 0 (below-four (meaning.numbers key))
+  asks_in_one (Spill key cost) one = one_of_four (shard_of_step {V = V} meaning (Spill key cost)) 0 (below-four (meaning.numbers key))
   asks_in_one (Unpin key) one = one_of_four (shard_of_step {V = V} meaning (Unpin key)) 0 (below-four (meaning.numbers key))
   asks_in_one (Limits entries budget) one = omega arith
+  asks_in_one (Hard hard) one = omega arith
 
   -- the asks of the four shards are all
   asks_apart : (steps : List (Step K V)) → All IsOfOne steps

@@ -4,8 +4,8 @@ use Rattle.std.specs.Cmp.{IsEquivalence}
 use Rattle.std.specs.Map.{lookup}
 use Rattle.std.proofs.lemmas.List.Sums.{sum_by-cons}
 use Rattle.turn_cell.specs.History.{History}
-use Rattle.evict_core.specs.Counting.{CountsSay, counts_of, flying, flying_one, tally}
-use Rattle.evict_core.specs.Machine.{Status, Flying, Ready, Step, Hit, Claim, Crowded, Ask, PinAll, Fill, Fail, Unpin, Limits, last_count, maker_in}
+use Rattle.evict_core.specs.Counting.{CountsSay, counts_of, tally}
+use Rattle.evict_core.specs.Machine.{flying, flying_one, Status, Flying, Ready, Step, Hit, Claim, Crowded, Ask, PinAll, Fill, Fail, Spill, Unpin, Limits, Hard, last_count, maker_in}
 use Rattle.evict_core.specs.Recency.{Apart}
 use Rattle.evict_core.proofs.CountLemmas.{counts-say}
 use Rattle.evict_core.proofs.HistoryLemmas.{sound-replay}
@@ -54,8 +54,10 @@ module _ {K V : Type 0} where
   ask_counted (PinAll keys) = omega arith
   ask_counted (Fill key cost value) = refl
   ask_counted (Fail key) = refl
+  ask_counted (Spill key cost) = refl
   ask_counted (Unpin key) = refl
   ask_counted (Limits entries budget) = refl
+  ask_counted (Hard hard) = refl
 
 module _ {K V T : Type 0} (meaning : Meaning K V T) (under : Opening T) where
   asks_counted : (history : History (Entry K))

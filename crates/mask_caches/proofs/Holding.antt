@@ -8,7 +8,7 @@ use Rattle.std.proofs.lemmas.List.{reverse-append}
 use Rattle.std.proofs.lemmas.List.Elements.{All-head, All-tail}
 use Rattle.turn_cell.specs.History.{History, entries_of}
 use Rattle.turn_cell.proofs.Histories.{entries_of-map}
-use Rattle.evict_core.specs.Machine.{Step, Hit, Claim, Crowded, Ask, PinAll, Fill, Fail, Unpin, Limits}
+use Rattle.evict_core.specs.Machine.{Step, Hit, Claim, Crowded, Ask, PinAll, Fill, Fail, Spill, Unpin, Limits, Hard}
 use Rattle.evict_core.specs.History.{one_if, takes, times_named, pins_taken, pins_given, pins_left, is_open_after, is_open_in, has_open}
 use Rattle.flight_cache.specs.Meaning.{Meaning, shard_of, shard_count}
 use Rattle.flight_cache.specs.Histories.{is_in, step_of, steps_in, IsOfShard, IsLegalUnder}
@@ -133,8 +133,10 @@ module _ {K V T : Type 0} (eq : K → K → Bool) (same : (a b : K) → eq a b �
     takes-none (PinAll keys) h = none-named keys h
     takes-none (Fill k cost value) h = ap one_if (other-key k h)
     takes-none (Fail k) h = refl
+    takes-none (Spill k cost) h = refl
     takes-none (Unpin k) h = refl
     takes-none (Limits entries budget) h = refl
+    takes-none (Hard hard) h = refl
 
     opens-none : (s : Step K V) → IsOfShard meaning under s → is_open_after eq s key false ≡ false
     opens-none (Ask k Hit) h = refl
@@ -143,8 +145,10 @@ module _ {K V T : Type 0} (eq : K → K → Bool) (same : (a b : K) → eq a b �
     opens-none (PinAll keys) h = refl
     opens-none (Fill k cost value) h = rw (other-key k h) refl
     opens-none (Fail k) h = rw (other-key k h) refl
+    opens-none (Spill k cost) h = rw (other-key k h) refl
     opens-none (Unpin k) h = refl
     opens-none (Limits entries budget) h = refl
+    opens-none (Hard hard) h = refl
 
     -- the steps of a shard concern none of the keys of another one
     taken-none : (n : ℕ) (h : History (Step K V)) → All (λ e. IsOfShard meaning under e.1) h → pins_taken eq (entries_of n h) key ≡ 0

@@ -1,5 +1,5 @@
 -- Visits of regions, masks and composed masks, from what their parts come to.
-use Rattle.std.proofs.Common.{◌≡◌, if◌then◌else◌, ◌&&◌, Bool, true, false, List, [], ◌∷◌, Option, Result, Ok, Err, refl, sym, subst}
+use Rattle.std.proofs.Common.{◌≡◌, if◌then◌else◌, ◌&&◌, Bool, true, false, List, [], ◌∷◌, Option, Result, Ok, Err, refl, sym, ap, ◌∙◌, subst}
 use Rattle.std.specs.Result.{IfOk, OnOk}
 use Rattle.std.specs.Arc.{arc_value}
 use Rattle.std.specs.declared.alloc.Global.{Global}
@@ -10,7 +10,7 @@ use Rattle.bdf_font.specs.declared.sets.FontSet.{FontSet}
 use Rattle.evict_core.specs.Machine.{Ask, Hit}
 use Rattle.flight_cache.specs.Calls.{TicketView, PinView}
 use Rattle.flight_cache.specs.Shards.{CacheView, CachePassView}
-use Rattle.cache_kinds.specs.Kinds.{region_meaning, mask_meaning, composite_meaning}
+use Rattle.cache_kinds.specs.Kinds.{region_meaning, mask_meaning, composite_meaning, is_widened}
 use Rattle.mask_keys.specs.Equality.{equal_regions, equal_masks, equal_composites}
 use Rattle.mask_keys.specs.Keys.{region_key, unwidened}
 use Rattle.mask_keys.proofs.Equal.{region_same, mask_same, composite_same}
@@ -21,16 +21,16 @@ use Rattle.mask_keys.specs.declared.composite_key.CompositeKey.{CompositeKey}
 use Rattle.mask_keys.specs.declared.mask_key.MaskKey.{MaskKey}
 use Rattle.mask_keys.specs.declared.region_key.RegionKey.{RegionKey}
 use Rattle.mask_caches.specs.Adding.{Adds}
-use Rattle.mask_caches.specs.Courses.{Course, Found, Unasked, has_value, has_pin, is_made, course_steps, use_steps, IsHadBy, IsLeaseOf, duty_steps, IsDutyOf, settled_steps, IsSettled}
+use Rattle.mask_caches.specs.Courses.{Course, Found, Unasked, has_value, has_pin, is_made, course_steps, use_steps, IsHadBy, IsUnasked, IsLeaseOf, duty_steps, IsDutyOf, settled_steps, IsSettled}
 use Rattle.mask_caches.specs.Composing.{ThreePasses, IsComposed}
 use Rattle.mask_caches.specs.Holding.{AreAllHad}
 use Rattle.mask_caches.specs.Leases.{given_steps}
-use Rattle.mask_caches.specs.Visits.{RegionVisit, MaskVisit, IsRegionVisit, IsMaskVisit, AreMaskVisits, is_widened, widening_steps, region_steps, region_use_steps, steps_of_its_region, mask_steps, region_steps_of, mask_steps_of}
+use Rattle.mask_caches.specs.Visits.{RegionVisit, MaskVisit, IsRegionVisit, IsMaskVisit, AreMaskVisits, widening_steps, region_steps, region_use_steps, steps_of_its_region, mask_steps, region_steps_of, mask_steps_of}
 use Rattle.mask_caches.specs.declared.caches.Caches.{Caches}
 use Rattle.mask_caches.specs.declared.lease.Lease.{Lease}
 use Rattle.mask_caches.specs.declared.lease.Lease.TheVariants.{Pinned}
 use Rattle.mask_caches.proofs.Adding.{adds-none}
-use Rattle.mask_caches.proofs.Visiting.{had-use, had-value, refused-use, settled-course}
+use Rattle.mask_caches.proofs.Visiting.{false-true, had-use, had-value, refused-use, settled-course}
 
 both-true : (a b : Bool) → b ≡ false → a && b ≡ true → ⊥
 both-true true b none both = cc
@@ -198,16 +198,18 @@ module _ {M E : Type 0} (caches : Caches) (key : CompositeKey) (passes after : T
     masks = subst (λ (p : CachePassView MaskKey (Arc FontSet Global)). Adds equal_masks mask_meaning caches.masks passes.masks p []) (sym masks) (adds-none equal_masks mask_meaning caches.masks passes.masks);
     regions = subst (λ (p : CachePassView RegionKey (Arc FontSet Global)). Adds equal_regions region_meaning caches.regions passes.regions p []) (sym regions) (adds-none equal_regions region_meaning caches.regions passes.regions);
     had_by = (refl, need.0, need.1);
+    short = λ is. absurd (false-true (sym (ap has_pin is)));
   }
 
-  pub unasked-composite : (refused : E) → Adds equal_composites composite_meaning caches.composites passes.composites after.composites [] → after.masks ≡ passes.masks → after.regions ≡ passes.regions → IsComposed {M = M} {E = E} caches passes key after (Err refused)
-  unasked-composite refused asks masks regions = record {
+  pub unasked-composite : (refused : E) → Adds equal_composites composite_meaning caches.composites passes.composites after.composites [] → IsUnasked equal_composites composite_meaning caches.composites passes.composites key after.composites → after.masks ≡ passes.masks → after.regions ≡ passes.regions → IsComposed {M = M} {E = E} caches passes key after (Err refused)
+  unasked-composite refused asks none masks regions = record {
     visit = record { course = Unasked; masks = [] };
     is_visit = record { masks = λ no. absurd (both-true true false refl no); all = λ no. absurd (both-true true false refl no); had = λ no. absurd (both-true true false refl no) };
     composites = asks;
     masks = subst (λ (p : CachePassView MaskKey (Arc FontSet Global)). Adds equal_masks mask_meaning caches.masks passes.masks p []) (sym masks) (adds-none equal_masks mask_meaning caches.masks passes.masks);
     regions = subst (λ (p : CachePassView RegionKey (Arc FontSet Global)). Adds equal_regions region_meaning caches.regions passes.regions p []) (sym regions) (adds-none equal_regions region_meaning caches.regions passes.regions);
     had_by = refl;
+    short = λ is. none;
   }
 
   pub made-composite : (q : CachePassView CompositeKey (Arc FontSet Global)) (duty : Option (TicketView CompositeKey)) (made : Result (Arc MaskValue Global) E) (had : Result (Lease M CompositeKey MaskValue (Arc FontSet Global)) E)
@@ -228,4 +230,5 @@ module _ {M E : Type 0} (caches : Caches) (key : CompositeKey) (passes after : T
         masks = subst (λ (b : Bool). Adds equal_masks mask_meaning caches.masks passes.masks after.masks (if b then mask_steps_of caches.masks.tag inner.0 else [])) (sym v.3) inner.3;
         regions = subst (λ (b : Bool). Adds equal_regions region_meaning caches.regions passes.regions after.regions (if b then region_steps_of caches.regions.tag inner.0 else [])) (sym v.3) inner.2;
         had_by = v.2;
+        short = λ is. absurd (false-true (sym (ap is_made is) ∙ v.3));
       }

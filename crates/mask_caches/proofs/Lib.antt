@@ -10,11 +10,15 @@ pub mod PartVisits
 pub mod Pinned
 pub mod PlainValues
 pub mod Releasing
+pub mod Rings
 pub mod Staying
 pub mod Tagged
 pub mod Visiting
 pub mod Firsts
-pub mod Warmed
+pub mod Free
+pub mod KeysWarmed
+pub mod Keeping
 pub mod Asks
 pub mod Counted
 pub mod Summed
+pub mod Homes

@@ -14,7 +14,7 @@ use Rattle.mask_keys.specs.declared.region_key.RegionKey.{RegionKey}
 use Rattle.mask_keys.specs.Regions.{widened_region}
 use Rattle.mask_keys.specs.Values.{mask_of_region, mask_value, outline_value, region_value}
 use Rattle.sample_region.specs.Limits.{max_inside}
-use Rattle.mask_caches.specs.Visits.{is_widened}
+use Rattle.cache_kinds.specs.Kinds.{is_widened}
 use Rattle.mask_keys.proofs.UnwidenedLemmas.{outline-near, outline-unwidened, region-near as key_region-near}
 
 true-false : true ≡ false → ⊥

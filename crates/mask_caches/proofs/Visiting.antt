@@ -12,7 +12,7 @@ use Rattle.flight_cache.specs.Meaning.{Meaning}
 use Rattle.flight_cache.specs.Calls.{TicketView, PinView}
 use Rattle.flight_cache.specs.Shards.{CacheView, CachePassView}
 use Rattle.mask_caches.specs.Adding.{Adds, HoldsAsMuch, is_open}
-use Rattle.mask_caches.specs.Courses.{Course, Found, Filled, Failed, MadeApart, FailedApart, Unasked, has_value, is_made, fill_step, course_steps, unpin_steps, use_steps, IsLeaseOf, IsHadBy, HoldsTheLease, lease_pins, duty_steps, IsDutyOf, IsNewDuty, settled_steps, IsSettled}
+use Rattle.mask_caches.specs.Courses.{Course, Found, Filled, Failed, MadeApart, FailedApart, Spilled, Unasked, has_value, is_made, is_own, fill_step, spill_step, course_steps, unpin_steps, use_steps, IsLeaseOf, IsHadBy, HoldsTheLease, lease_pins, duty_steps, IsDutyOf, IsNewDuty, settled_steps, IsSettled}
 use Rattle.mask_caches.specs.Leases.{HoldsLease, given_steps, lease_value}
 use Rattle.mask_caches.specs.declared.lease.Lease.{Lease}
 use Rattle.mask_caches.specs.declared.lease.Lease.TheVariants.{Pinned, Own}
@@ -25,6 +25,26 @@ reclosed false was after last new opens closes = closes ∙ opens
 
 pub false-true : false ≡ true → ⊥
 false-true e = cc
+
+-- what is had itself was had
+pub own-value : (course : Course) → is_own course ≡ true → has_value course ≡ true
+own-value Found own = cc
+own-value Filled own = cc
+own-value Failed own = own
+own-value MadeApart own = refl
+own-value FailedApart own = own
+own-value Spilled own = refl
+own-value Unasked own = own
+
+-- and leaves nothing to give back
+pub own-unpins : {K V T : Type 0} (meaning : Meaning K V T) (tag : T) (key : K) (course : Course) → is_own course ≡ true → [] ≡ unpin_steps meaning tag key course
+own-unpins meaning tag key Found own = cc
+own-unpins meaning tag key Filled own = cc
+own-unpins meaning tag key Failed own = refl
+own-unpins meaning tag key MadeApart own = refl
+own-unpins meaning tag key FailedApart own = refl
+own-unpins meaning tag key Spilled own = refl
+own-unpins meaning tag key Unasked own = refl
 
 pub any-ok : {A E P : Type 0} (r : Result A E) → P → OnOk r P
 any-ok (Ok a) p = p
@@ -65,6 +85,7 @@ module _ {K V T : Type 0} (eq : K → K → Bool) (laws : IsEquivalence eq) (sam
   no-unpins key Failed none = refl
   no-unpins key MadeApart none = cc
   no-unpins key FailedApart none = refl
+  no-unpins key Spilled none = cc
   no-unpins key Unasked none = refl
 
   pub refused-use : (key : K) (course : Course) (inner : List (Step K V)) (p q : CachePassView K T) → has_value course ≡ false
@@ -106,7 +127,14 @@ module _ {M K V T : Type 0} (eq : K → K → Bool) (laws : IsEquivalence eq) (s
     refl,
     λ _. lower,
   )
-  settled-course key inner p q r s (Some t) (Ok a) (Ok (Own own)) asks need made_of fills settled value lower = absurd settled
+  settled-course key inner p q r s (Some t) (Ok a) (Ok (Own own)) asks need made_of spills settled value lower = (
+    Spilled,
+    adds-then eq meaning cache p q s (Ask key Claim ∷ []) (inner ++ spill_step meaning cache.tag key ∷ []) asks
+        (adds-then eq meaning cache q r s inner (spill_step meaning cache.tag key ∷ []) made_of (subst (λ (k : K). Adds eq meaning cache r s (spill_step meaning cache.tag k ∷ [])) need spills)),
+    (refl, settled ∙ ap (meaning.made cache.tag) need),
+    refl,
+    λ _. lower,
+  )
   settled-course key inner p q r s (Some t) (Err e) (Ok (Pinned pin)) asks need made_of fills settled value lower = absurd settled
   settled-course key inner p q r s (Some t) (Err e) (Ok (Own own)) asks need made_of fills settled value lower = absurd settled
   settled-course key inner p q r s (Some t) made (Err refused) asks need made_of fails settled value lower = (
@@ -144,7 +172,10 @@ module _ {M K V T : Type 0} (eq : K → K → Bool) (laws : IsEquivalence eq) (s
     pins = λ k. let one = asks.pins k in let two = much.pins k in let three = fills.pins k in let is = ap (λ (x : K). one_if (eq k x)) settled.0 in omega arith;
     claims = λ k. claimed-again eq laws same meaning cache key k p q r s t.key asks need new much (fills.claims k);
   }
-  settled-holds key p q r s (Some t) (Ok a) (Ok (Own own)) asks need new much fills settled = absurd settled
+  settled-holds key p q r s (Some t) (Ok a) (Ok (Own own)) asks need new much spills settled = record {
+    pins = λ k. let one = asks.pins k in let two = much.pins k in let three = spills.pins k in omega arith;
+    claims = λ k. claimed-again eq laws same meaning cache key k p q r s t.key asks need new much (spills.claims k);
+  }
   settled-holds key p q r s (Some t) (Err e) (Ok (Pinned pin)) asks need new much fills settled = absurd settled
   settled-holds key p q r s (Some t) (Err e) (Ok (Own own)) asks need new much fills settled = absurd settled
   settled-holds key p q r s (Some t) made (Err refused) asks need new much fails settled = record {
@@ -186,8 +217,9 @@ module _ {M K V T : Type 0} (eq : K → K → Bool) (laws : IsEquivalence eq) (s
   given-course key Failed (Pinned pin) is = let no = is.0 in cc
   given-course key MadeApart (Pinned pin) is = let no = is.0 in cc
   given-course key FailedApart (Pinned pin) is = let no = is.0 in cc
+  given-course key Spilled (Pinned pin) is = let no = is.0 in cc
   given-course key Unasked (Pinned pin) is = let no = is.0 in cc
-  given-course key course (Own value) is = ap (unpin_steps meaning cache.tag key) (sym is.0)
+  given-course key course (Own value) is = own-unpins meaning cache.tag key course is.0
 
   -- what is had has its value
   pub had-value : (key : K) (course : Course) (lease : Lease M K V T) → IsLeaseOf meaning cache.tag key course lease → has_value course ≡ true
@@ -196,8 +228,9 @@ module _ {M K V T : Type 0} (eq : K → K → Bool) (laws : IsEquivalence eq) (s
   had-value key Failed (Pinned pin) is = is.0
   had-value key MadeApart (Pinned pin) is = refl
   had-value key FailedApart (Pinned pin) is = is.0
+  had-value key Spilled (Pinned pin) is = refl
   had-value key Unasked (Pinned pin) is = is.0
-  had-value key course (Own value) is = ap has_value is.0
+  had-value key course (Own value) is = own-value course is.0
 
   pub lease-value : (key : K) (course : Course) (lease : Lease M K V T) → IsLeaseOf meaning cache.tag key course lease → lease_value lease ≡ meaning.made cache.tag key
   lease-value key course (Pinned pin) is = is.2

@@ -1,6 +1,6 @@
 -- Public: what calls in a row add to a cache: their steps in each shard, and what becomes of pins and claims.
-use Rattle.std.specs.Prelude.{◌≡◌, ℕ, ◌+◌, ◌==◌, Bool, List, ◌++◌, filter}
-use Rattle.evict_core.specs.Machine.{Step, Ask, PinAll, Fill, Fail, Unpin, Limits}
+use Rattle.std.specs.Prelude.{◌≡◌, ℕ, ◌+◌, ◌==◌, Bool, false, List, ◌++◌, filter}
+use Rattle.evict_core.specs.Machine.{Step, Ask, PinAll, Fill, Fail, Spill, Unpin, Limits, Hard}
 use Rattle.evict_core.specs.History.{times_named, pins_taken, pins_given, pins_left, is_open_in, has_open}
 use Rattle.flight_cache.specs.Meaning.{Meaning, shard_of, shard_count}
 use Rattle.flight_cache.specs.Calls.{ShardView, ShardPassView, own_steps}
@@ -13,9 +13,11 @@ module _ {K V T : Type 0} (meaning : Meaning K V T) where
   shard_of_step (Ask key answer) = shard_of (meaning.numbers key)
   shard_of_step (Fill key cost value) = shard_of (meaning.numbers key)
   shard_of_step (Fail key) = shard_of (meaning.numbers key)
+  shard_of_step (Spill key cost) = shard_of (meaning.numbers key)
   shard_of_step (Unpin key) = shard_of (meaning.numbers key)
   shard_of_step (PinAll keys) = shard_count
   shard_of_step (Limits entries budget) = shard_count
+  shard_of_step (Hard hard) = shard_count
 
   -- those of the steps whose key is in the shard
   abbrev pub steps_of_shard : ℕ → List (Step K V) → List (Step K V)
@@ -33,6 +35,10 @@ module _ {K V T : Type 0} (eq : K → K → Bool) (meaning : Meaning K V T) (cac
   -- whether the pass has a claim of the key open
   abbrev pub is_open : CachePassView K T → K → Bool
   is_open pass key = let n = shard_of (meaning.numbers key) in has_open eq (own_steps meaning (at cache.shards n).tag (at pass n)) key
+
+  -- the pass has no claim open
+  abbrev pub IsFree : CachePassView K T → Type 0
+  IsFree pass = (key : K) → is_open pass key ≡ false
 
   -- The pass after calls that gave just these steps, each in the shard of its key
   pub record Adds (pass after : CachePassView K T) (steps : List (Step K V)) : Type 0 where

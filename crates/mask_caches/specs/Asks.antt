@@ -1,7 +1,7 @@
 -- Public: how many keys were asked for in a cache.
 use Rattle.std.specs.Prelude.{ℕ, ◌+◌, ◌≤◌, min, List, length, map, sum_by}
 use Rattle.turn_cell.specs.History.{History}
-use Rattle.evict_core.specs.Machine.{Step, Ask, PinAll, Fill, Fail, Unpin, Limits, last_count}
+use Rattle.evict_core.specs.Machine.{Step, Ask, PinAll, Fill, Fail, Spill, Unpin, Limits, Hard, last_count}
 use Rattle.evict_core.specs.declared.counts.Totals.{Totals}
 use Rattle.flight_cache.specs.Meaning.{Meaning}
 use Rattle.flight_cache.specs.Histories.{step_of}
@@ -17,8 +17,10 @@ module _ {K V : Type 0} where
   asks_in (PinAll keys) = length keys
   asks_in (Fill key cost value) = 0
   asks_in (Fail key) = 0
+  asks_in (Spill key cost) = 0
   asks_in (Unpin key) = 0
   asks_in (Limits entries budget) = 0
+  asks_in (Hard hard) = 0
 
   -- how many these steps ask for together
   abbrev pub asks_of : List (Step K V) → ℕ

@@ -9,15 +9,22 @@ use Rattle.flight_cache.specs.Shards.{CacheView, CachePassView, IsCacheOf, AreSh
 use Rattle.mask_keys.specs.Equality.{equal_regions, equal_masks, equal_composites}
 use Rattle.cache_kinds.specs.Kinds.{region_meaning, mask_meaning, composite_meaning}
 use Rattle.cache_kinds.specs.Limits.{entry_limit}
-use Rattle.mask_caches.specs.Adding.{HoldsAsMuch}
+use Rattle.mask_caches.specs.Adding.{HoldsAsMuch, IsFree}
 use Rattle.mask_caches.specs.declared.caches.Caches.{Caches}
 use Rattle.mask_caches.specs.declared.passes.CachesPass.{CachesPass}
 
--- the pass comes from the caches
+-- the pass has no claim open in any cache
+pub record AreFree (caches : Caches) (pass : CachesPass) : Type 0 where
+  pub regions : IsFree equal_regions region_meaning caches.regions pass.regions
+  pub masks : IsFree equal_masks mask_meaning caches.masks pass.masks
+  pub composites : IsFree equal_composites composite_meaning caches.composites pass.composites
+
+-- The pass comes from the caches, and nobody waits for it: so it is between calls.
 pub record IsPassOf (caches : Caches) (pass : CachesPass) : Type 0 where
   pub regions : IsCacheOf caches.regions pass.regions
   pub masks : IsCacheOf caches.masks pass.masks
   pub composites : IsCacheOf caches.composites pass.composites
+  pub free : AreFree caches pass
 
 -- one pass is what the other was
 pub record IsSamePass (pass after : CachesPass) : Type 0 where

@@ -3,7 +3,7 @@ use Rattle.std.specs.Prelude.{◌≤◌, Bool, true, false, List, [], ◌∷◌}
 use Rattle.std.specs.Arc.{arc_value}
 use Rattle.evict_core.specs.Machine.{Step, Unpin}
 use Rattle.flight_cache.specs.Meaning.{Meaning}
-use Rattle.flight_cache.specs.Shards.{CacheView, CachePassView}
+use Rattle.flight_cache.specs.Shards.{CacheView, CachePassView, IsHome}
 use Rattle.mask_caches.specs.Adding.{pins_of}
 use Rattle.mask_caches.specs.declared.lease.Lease.{Lease}
 use Rattle.mask_caches.specs.declared.lease.Lease.TheVariants.{Pinned, Own}
@@ -27,3 +27,8 @@ given_steps (Own value) = []
 abbrev pub HoldsLease : {M K V T : Type 0} → (K → K → Bool) → Meaning K V T → CacheView T → CachePassView K T → Lease M K V T → Type 0
 HoldsLease eq meaning cache pass (Pinned pin) = 1 ≤ pins_of eq meaning cache pass pin.key
 HoldsLease eq meaning cache pass (Own value) = Unit {0}
+
+-- the lease, if it is a pin, is of the cache
+abbrev pub IsHomeLease : {M K V T : Type 0} → Meaning K V T → CacheView T → Lease M K V T → Type 0
+IsHomeLease meaning cache (Pinned pin) = IsHome meaning cache pin.key pin.cell
+IsHomeLease meaning cache (Own value) = Unit {0}

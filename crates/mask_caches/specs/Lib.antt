@@ -8,10 +8,12 @@ pub mod Pinning
 pub mod Threes
 pub mod Together
 pub mod Visits
+pub mod Waiting
 pub mod Aheads
 pub mod Firsts
 pub mod Warming
 pub mod Asks
 pub mod Balance
 pub mod Laws
+pub mod Keeping
 pub mod FontProps

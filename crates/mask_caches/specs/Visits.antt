@@ -1,16 +1,19 @@
 -- Public: what a call asks for to make a value, level by level, and the steps of that in each of the three caches.
-use Rattle.std.specs.Prelude.{◌≡◌, ◌-◌, ◌==◌, Bool, true, not, ◌&&◌, if◌then◌else◌, List, [], ◌++◌, length, map, take, reverse, flat_map, All}
+use Rattle.std.specs.Prelude.{◌≡◌, ◌-◌, true, ◌&&◌, if◌then◌else◌, List, [], ◌++◌, length, map, take, reverse, flat_map, All}
 use Rattle.std.specs.declared.sync.Arc.{Arc}
 use Rattle.bdf_font.specs.declared.sets.FontSet.{FontSet}
 use Rattle.ass_num.specs.Masks.{MaskValue}
 use Rattle.ass_num.specs.Regions.{RegionValue}
 use Rattle.evict_core.specs.Machine.{Step}
-use Rattle.cache_kinds.specs.Kinds.{region_meaning, mask_meaning, composite_meaning}
+use Rattle.cache_kinds.specs.Kinds.{region_meaning, mask_meaning, composite_meaning, is_widened}
+use Rattle.flight_cache.specs.Shards.{CachePassView, CacheView}
+use Rattle.mask_keys.specs.Equality.{equal_regions}
 use Rattle.mask_keys.specs.Keys.{region_key, unwidened}
 use Rattle.mask_keys.specs.declared.composite_key.CompositeKey.{CompositeKey}
 use Rattle.mask_keys.specs.declared.composite_key.Part.{Part}
 use Rattle.mask_keys.specs.declared.mask_key.MaskKey.{MaskKey}
 use Rattle.mask_keys.specs.declared.region_key.RegionKey.{RegionKey}
+use Rattle.mask_caches.specs.Adding.{is_open}
 use Rattle.mask_caches.specs.Courses.{Course, has_value, is_made, course_steps, unpin_steps, use_steps}
 
 -- a region: how it was come by, and how its outline was, if it was made by widening that
@@ -29,9 +32,9 @@ pub record CompositeVisit : Type 0 where
   pub course : Course
   pub masks : List MaskVisit
 
--- the region is widened
-abbrev pub is_widened : RegionKey → Bool
-is_widened key = not ((key.rx == 0) && (key.ry == 0))
+-- The pass may wait for an outline: it has no claim open but of widened regions.
+abbrev pub HasWidenedOpen : {Z : Type 0} → CacheView (Arc FontSet Z) → CachePassView RegionKey (Arc FontSet Z) → Type 0
+HasWidenedOpen cache pass = (key : RegionKey) → is_open equal_regions region_meaning cache pass key ≡ true → is_widened key ≡ true
 
 -- a widened region that was made and had its value had its outline
 pub record IsRegionVisit (key : RegionKey) (visit : RegionVisit) : Type 0 where

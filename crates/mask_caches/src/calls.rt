@@ -1,15 +1,17 @@
 //! The calls of the three caches together.
 ghost use Rattle.std.specs.Prelude.{◌≡◌, ◌≤◌, ◌<◌, ◌∷◌, [], false, IfOk, IfErr, OnOk, All};
 ghost use Rattle.std.specs.Arc.{arc_value};
-ghost use Rattle.evict_core.specs.Machine.{Limits, Unpin, max_budget, max_entries};
-ghost use Rattle.flight_cache.specs.Shards.{EachGives, IsCacheOf, min_cache_entries, part};
+ghost use Rattle.evict_core.specs.Machine.{Limits, Unpin, IsHardLimit, max_budget, max_entries};
+ghost use Rattle.flight_cache.specs.Budgets.{shown_budgets};
+ghost use Rattle.flight_cache.specs.Shards.{EachGives, IsCacheOf, IsHardSetInEach, min_cache_entries, part};
 ghost use Rattle.cache_kinds.specs.Kinds.{composite_meaning, mask_meaning, region_meaning};
 ghost use Rattle.mask_keys.specs.Equality.{equal_composites, equal_masks, equal_regions};
 ghost use Rattle.mask_keys.specs.Outlines.{IsFontSet};
-ghost use Rattle.mask_caches.specs.Adding.{Adds};
-ghost use Rattle.mask_caches.specs.Leases.{HoldsLease, given_steps, is_pinned};
+ghost use Rattle.mask_caches.specs.Adding.{Adds, IsFree};
+ghost use Rattle.mask_caches.specs.Leases.{HoldsLease, given_steps, is_pinned, IsHomeLease};
 ghost use Rattle.mask_caches.specs.Caches.{AreJoined, AreLegal, AreNew, AreNumbered, HasAllGivenBack, HoldsAsBefore, HoldsNothingAgain, IsNewCache, IsPassOf};
 ghost use Rattle.mask_caches.specs.Caches.{IsSamePass, IsSplit, IsSplitIn, all_totals};
+ghost use Rattle.mask_caches.specs.Warming.{AddsWarming};
 ghost use Rattle.cache_kinds.specs.Limits.{entry_limit};
 
 use crate::caches::Caches;
@@ -18,10 +20,18 @@ use crate::passes::CachesPass;
 use ass_num::{Mem, OutOfMemory};
 use bdf_font::FontSet;
 use cache_kinds::{CompositeMade, entry_limit};
-use evict_core::Totals;
-use flight_cache::{Cache, CachePass, Made};
+use evict_core::{HardLimit, Totals};
+use flight_cache::{Budgets, Cache, CachePass, Made};
 use std::alloc::Global;
 use std::sync::{Arc, Wait};
+
+/// Which of the three caches have a hard limit that was to be set, in all their shards.
+#[derive(Clone, Copy, Debug, PartialEq, Eq)]
+pub struct HardSet {
+    pub regions: bool,
+    pub masks: bool,
+    pub composites: bool,
+}
 
 /// A cache with the whole budget, and its first pass.
 fn open_cache<M: Made>(alloc: Global, tag: M::Tag, budget: u64) -> Mem<(Cache<M>, CachePass<M>)>
@@ -29,6 +39,7 @@ fn open_cache<M: Made>(alloc: Global, tag: M::Tag, budget: u64) -> Mem<(Cache<M>
     ensures tag { IfOk result (λ r. r.0.tag ≡ tag) }
     ensures new { IfOk result (λ r. IsNewCache r.0 r.1 budget) }
     ensures pass { IfOk result (λ r. IsCacheOf r.0 r.1) }
+    ensures free { IfOk result (λ r. IsFree M.Key.eq M.meaning r.0 r.1) }
 {
     let entries = entry_limit(budget);
     Cache::open(alloc, tag, entries, budget)
@@ -86,7 +97,13 @@ impl Caches {
     }
 
     /// A new budget, and the limit of entries that goes with it, for each cache.
-    pub fn set_budgets<R: Wait>(&self, rt: &R, pass: CachesPass, budget: u64) -> CachesPass
+    pub fn set_budgets<R: Wait>(
+        &self,
+        rt: &R,
+        alloc: Global,
+        pass: CachesPass,
+        budget: u64,
+    ) -> CachesPass
         requires pass { IsPassOf self.now pass }
         requires budget { budget ≤ max_budget }
         ensures pass { IsPassOf self.now result }
@@ -104,14 +121,54 @@ impl Caches {
             composites,
         } = pass;
         let entries = entry_limit(budget);
-        let regions = self.regions.set_limits(rt, regions, entries, budget);
-        let masks = self.masks.set_limits(rt, masks, entries, budget);
-        let composites = self.composites.set_limits(rt, composites, entries, budget);
+        let regions = self.regions.set_limits(rt, alloc, regions, entries, budget);
+        let masks = self.masks.set_limits(rt, alloc, masks, entries, budget);
+        let composites = self
+            .composites
+            .set_limits(rt, alloc, composites, entries, budget);
         CachesPass {
             regions,
             masks,
             composites,
         }
+    }
+
+    /// A hard limit of what all entries of a cache cost together, or none any more, for each cache: it is told which of them have it
+    /// in all shards. Where the entries of a shard pass its part as they are, it keeps the limit that it had.
+    pub fn set_hard_limit<R: Wait>(
+        &self,
+        rt: &R,
+        pass: CachesPass,
+        hard: Option<HardLimit>,
+    ) -> (CachesPass, HardSet)
+        requires pass { IsPassOf self.now pass }
+        requires hard { IsHardLimit hard }
+        ensures pass { IsPassOf self.now result.0 }
+        ensures regions { IsHardSetInEach equal_regions region_meaning self.now.regions.shards pass.regions hard result.0.regions result.1.regions }
+        ensures masks { IsHardSetInEach equal_masks mask_meaning self.now.masks.shards pass.masks hard result.0.masks result.1.masks }
+        ensures composites { IsHardSetInEach equal_composites composite_meaning self.now.composites.shards pass.composites hard
+            result.0.composites result.1.composites }
+        ensures holds { HoldsAsBefore self.now pass result.0 }
+    {
+        let CachesPass {
+            regions,
+            masks,
+            composites,
+        } = pass;
+        let (regions, regions_set) = self.regions.set_hard_limit(rt, regions, hard);
+        let (masks, masks_set) = self.masks.set_hard_limit(rt, masks, hard);
+        let (composites, composites_set) = self.composites.set_hard_limit(rt, composites, hard);
+        let pass = CachesPass {
+            regions,
+            masks,
+            composites,
+        };
+        let set = HardSet {
+            regions: regions_set,
+            masks: masks_set,
+            composites: composites_set,
+        };
+        (pass, set)
     }
 
     /// The totals of the regions, the masks and the composed masks, in this order.
@@ -143,6 +200,31 @@ impl Caches {
         )
     }
 
+    /// What the shards of the composed masks may keep. It adds nothing.
+    pub fn composite_budgets<R: Wait>(&self, rt: &R, pass: CachesPass) -> (CachesPass, Budgets)
+        requires { IsPassOf self.now pass }
+        ensures pass { IsPassOf self.now result.0 }
+        ensures composites { EachGives equal_composites composite_meaning self.now.composites.shards pass.composites result.0.composites (λ n. []) }
+        ensures budgets { result.1 ≡ shown_budgets equal_composites composite_meaning self.now.composites result.0.composites }
+        ensures adds { AddsWarming self.now pass result.0 [] }
+        ensures holds { HoldsAsBefore self.now pass result.0 }
+    {
+        let CachesPass {
+            regions,
+            masks,
+            composites,
+        } = pass;
+        let (composites, budgets) = self.composites.budgets(rt, composites);
+        (
+            CachesPass {
+                regions,
+                masks,
+                composites,
+            },
+            budgets,
+        )
+    }
+
     /// Gives back what was had of a composed mask.
     pub fn give_back<R: Wait>(
         &self,
@@ -151,6 +233,7 @@ impl Caches {
         lease: Lease<CompositeMade>,
     ) -> CachesPass
         requires pass { IsPassOf self.now pass }
+        requires own { IsHomeLease composite_meaning self.now.composites lease }
         requires held { HoldsLease equal_composites composite_meaning self.now.composites pass.composites lease }
         ensures pass { IsPassOf self.now result }
         ensures composites { Adds equal_composites composite_meaning self.now.composites pass.composites result.composites (given_steps lease) }

@@ -10,17 +10,17 @@ ghost use Rattle.mask_keys.specs.Keys.{IsValidComposite, IsValidPart};
 ghost use Rattle.mask_keys.specs.Masks.{summed_mask};
 ghost use Rattle.mask_keys.specs.Outlines.{glyph_counts};
 ghost use Rattle.mask_keys.specs.Values.{composite_value};
-ghost use Rattle.mask_caches.specs.Adding.{Adds, HoldsAsMuch, HoldsFewer, HoldsMore};
+ghost use Rattle.mask_caches.specs.Adding.{Adds, HoldsAsMuch, HoldsFewer, HoldsMore, IsFree};
 ghost use Rattle.mask_caches.specs.Caches.{IsPassOf};
 ghost use Rattle.mask_caches.specs.Composing.{HoldsJustTheLease, IsComposed};
 ghost use Rattle.mask_caches.specs.Threes.{three, three_of};
 ghost use Rattle.mask_caches.specs.Holding.{AreAllHad, AreVisited, all_given_steps, pinned_keys};
-ghost use Rattle.mask_caches.specs.Leases.{HoldsLease, lease_value};
+ghost use Rattle.mask_caches.specs.Leases.{HoldsLease, lease_value, IsHomeLease};
 ghost use Rattle.mask_caches.specs.Visits.{AreMaskVisits, MaskVisit, mask_steps, mask_steps_of, region_steps_of};
 
 use crate::caches::Caches;
 use crate::lease::{Lease, give_back};
-use crate::lending::{ask, settle};
+use crate::lending::settle;
 use crate::passes::CachesPass;
 use ass_num::{Mask, Mem, OutOfMemory};
 use cache_kinds::{CompositeMade, MaskMade, RegionMade};
@@ -71,6 +71,7 @@ fn give_all_back<R: Wait>(
     leases: Vec<Lease<MaskMade>>,
 ) -> CachePass<MaskMade>
     requires cell { IsCacheOf cache.now pass }
+    requires own { All (IsHomeLease mask_meaning cache.now) leases.items }
     requires held { HoldsEach equal_masks mask_meaning cache.now pass (pinned_keys leases.items) }
     ensures steps { Adds equal_masks mask_meaning cache.now pass result (all_given_steps leases.items) }
     ensures holds { HoldsFewer equal_masks mask_meaning cache.now pass result (pinned_keys leases.items) }
@@ -113,6 +114,8 @@ impl Caches {
     ) -> Masks
         requires regions { IsCacheOf self.now.regions regions }
         requires masks { IsCacheOf self.now.masks masks }
+        requires regions_free { IsFree equal_regions region_meaning self.now.regions regions }
+        requires masks_free { IsFree equal_masks mask_meaning self.now.masks masks }
         requires parts { All (IsValidPart (glyph_counts (arc_value self.now.fonts).fonts)) parts.now }
         requires empty { leases.items ≡ [] }
         requires len { vec_len leases ≡ 0 }
@@ -122,6 +125,7 @@ impl Caches {
             × Adds equal_masks mask_meaning self.now.masks masks result.masks (flat_map (mask_steps self.now.masks.tag) visits) }
         ensures regions { HoldsAsMuch equal_regions region_meaning self.now.regions regions result.regions }
         ensures holds { HoldsMore equal_masks mask_meaning self.now.masks masks result.masks (pinned_keys result.leases.items) }
+        ensures homes { All (IsHomeLease mask_meaning self.now.masks) result.leases.items }
     {
         let mut regions = regions;
         let mut masks = masks;
@@ -164,6 +168,8 @@ impl Caches {
     ) -> (CachePass<RegionMade>, CachePass<MaskMade>, Mem<Arc<Mask>>)
         requires regions { IsCacheOf self.now.regions regions }
         requires masks { IsCacheOf self.now.masks masks }
+        requires regions_free { IsFree equal_regions region_meaning self.now.regions regions }
+        requires masks_free { IsFree equal_masks mask_meaning self.now.masks masks }
         requires key { IsValidComposite (glyph_counts (arc_value self.now.fonts).fonts) key.now }
         ensures visits { (visits : List MaskVisit) × AreMaskVisits key.now.parts visits
             × Adds equal_regions region_meaning self.now.regions regions result.0 (region_steps_of self.now.regions.tag visits)
@@ -202,16 +208,20 @@ impl Caches {
         requires regions { IsCacheOf self.now.regions passes.regions }
         requires masks { IsCacheOf self.now.masks passes.masks }
         requires composites { IsCacheOf self.now.composites passes.composites }
+        requires regions_free { IsFree equal_regions region_meaning self.now.regions passes.regions }
+        requires masks_free { IsFree equal_masks mask_meaning self.now.masks passes.masks }
+        requires composites_free { IsFree equal_composites composite_meaning self.now.composites passes.composites }
         requires key { IsValidComposite (glyph_counts (arc_value self.now.fonts).fonts) key.now }
         ensures composed { IsComposed self.now (three passes) key.now (three result.0) result.1 }
         ensures holds { HoldsJustTheLease self.now (three passes) key.now (three result.0) result.1 }
+        ensures home { IfOk result.1 (IsHomeLease composite_meaning self.now.composites) }
     {
         let Passes {
             regions,
             masks,
             composites,
         } = passes;
-        let (composites, asked) = ask(&self.composites, rt, alloc, composites, key);
+        let (composites, asked) = self.ask_composite(rt, alloc, &regions, &masks, composites, key);
         match asked {
             Asked::Hit(pin) => {
                 let passes = Passes {
@@ -263,6 +273,7 @@ impl Caches {
         ensures holds { HoldsJustTheLease self.now (three_of pass) key.now (three_of result.0) result.1 }
         ensures pass { IsPassOf self.now result.0 }
         ensures held { IfOk result.1 (HoldsLease equal_composites composite_meaning self.now.composites result.0.composites) }
+        ensures home { IfOk result.1 (IsHomeLease composite_meaning self.now.composites) }
     {
         let CachesPass {
             regions,

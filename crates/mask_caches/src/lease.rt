@@ -3,7 +3,7 @@ ghost use Rattle.std.specs.Prelude.{◌≡◌, false, IfOk};
 ghost use Rattle.std.specs.Arc.{arc_value};
 ghost use Rattle.flight_cache.specs.Shards.{IsCacheOf};
 ghost use Rattle.mask_caches.specs.Adding.{Adds};
-ghost use Rattle.mask_caches.specs.Leases.{HoldsLease, given_steps, is_pinned, lease_value};
+ghost use Rattle.mask_caches.specs.Leases.{HoldsLease, given_steps, is_pinned, lease_value, IsHomeLease};
 
 use ass_num::{Mask, Mem};
 use blend::AsMask;
@@ -11,7 +11,8 @@ use cache_kinds::CompositeMade;
 use flight_cache::{Cache, CachePass, Made, Pin};
 use std::sync::{Arc, Wait};
 
-/// A value that is pinned in its cache, or one that was made apart since the cache had no room. It must be given back.
+/// A value that is pinned in its cache, or one that was made apart, or one that was made here and for which the cache had no room. It
+/// must be given back.
 pub enum Lease<M: Made> {
     Pinned(Pin<M>),
     Own(Arc<M::Value>),
@@ -57,6 +58,7 @@ pub(crate) fn give_back<M: Made, R: Wait>(
     lease: Lease<M>,
 ) -> CachePass<M>
     requires cell { IsCacheOf cache.now pass }
+    requires own { IsHomeLease M.meaning cache.now lease }
     requires held { HoldsLease M.Key.eq M.meaning cache.now pass lease }
     ensures steps { Adds M.Key.eq M.meaning cache.now pass result (given_steps lease) }
     ensures own { is_pinned lease ≡ false → result ≡ pass }

@@ -13,9 +13,12 @@ mod passes;
 mod ready;
 mod regions;
 pub mod total_laws;
+pub mod wait_laws;
 mod warming;
 
 pub use ahead::Ahead;
 pub use caches::Caches;
+pub use calls::HardSet;
 pub use lease::Lease;
 pub use passes::CachesPass;
+pub use warming::Prefetched;

@@ -7,13 +7,14 @@ ghost use Rattle.mask_keys.specs.Equality.{equal_masks, equal_regions};
 ghost use Rattle.mask_keys.specs.Keys.{IsValidMask, region_key};
 ghost use Rattle.mask_keys.specs.Outlines.{glyph_counts};
 ghost use Rattle.mask_keys.specs.Values.{mask_value};
-ghost use Rattle.mask_caches.specs.Adding.{Adds, HoldsAsMuch};
+ghost use Rattle.mask_caches.specs.Adding.{Adds, HoldsAsMuch, IsFree};
 ghost use Rattle.mask_caches.specs.Courses.{HoldsTheLease, IsHadBy, has_value};
 ghost use Rattle.mask_caches.specs.Visits.{IsMaskVisit, IsRegionVisit, MaskVisit, RegionVisit, mask_steps, region_use_steps, steps_of_its_region};
+ghost use Rattle.mask_caches.specs.Leases.{IsHomeLease};
 
 use crate::caches::Caches;
 use crate::lease::{Lease, give_back};
-use crate::lending::{ask, settle};
+use crate::lending::settle;
 use ass_num::{Mask, Mem, OutOfMemory};
 use cache_kinds::{MaskMade, RegionMade};
 use flight_cache::{Asked, CachePass};
@@ -34,6 +35,7 @@ impl Caches {
         hook: &H,
     ) -> (CachePass<RegionMade>, Mem<Arc<Mask>>)
         requires pass { IsCacheOf self.now.regions regions }
+        requires free { IsFree equal_regions region_meaning self.now.regions regions }
         requires key { IsValidMask (glyph_counts (arc_value self.now.fonts).fonts) key.now }
         ensures region { (visit : RegionVisit) × IsRegionVisit (region_key key.now) visit
             × Adds equal_regions region_meaning self.now.regions regions result.0 (region_use_steps self.now.regions.tag (region_key key.now) visit)
@@ -71,6 +73,8 @@ impl Caches {
     )
         requires regions { IsCacheOf self.now.regions regions }
         requires masks { IsCacheOf self.now.masks masks }
+        requires regions_free { IsFree equal_regions region_meaning self.now.regions regions }
+        requires masks_free { IsFree equal_masks mask_meaning self.now.masks masks }
         requires key { IsValidMask (glyph_counts (arc_value self.now.fonts).fonts) key.now }
         ensures visit { (visit : MaskVisit) × IsMaskVisit visit × (visit.key ≡ key.now)
             × Adds equal_regions region_meaning self.now.regions regions result.0 (steps_of_its_region self.now.regions.tag visit)
@@ -78,8 +82,9 @@ impl Caches {
             × IsHadBy mask_meaning self.now.masks.tag key.now visit.course result.2 }
         ensures regions { HoldsAsMuch equal_regions region_meaning self.now.regions regions result.0 }
         ensures holds { HoldsTheLease equal_masks mask_meaning self.now.masks masks result.1 result.2 }
+        ensures home { IfOk result.2 (IsHomeLease mask_meaning self.now.masks) }
     {
-        let (masks, asked) = ask(&self.masks, rt, alloc, masks, key);
+        let (masks, asked) = self.ask_mask(rt, alloc, &regions, masks, key);
         match asked {
             Asked::Hit(pin) => (regions, masks, Ok(Lease::Pinned(pin))),
             Asked::Make(duty) => {

@@ -1,5 +1,5 @@
 //! Composed masks that are ready.
-ghost use Rattle.std.specs.Prelude.{◌≡◌, ◌≤◌, [], length, map, IfOk, IfErr, vec_capacity, vec_len};
+ghost use Rattle.std.specs.Prelude.{◌≡◌, ◌≤◌, [], length, map, All, IfOk, IfErr, vec_capacity, vec_len};
 ghost use Rattle.flight_cache.specs.Pinning.{GivesNothing, IsRefused};
 ghost use Rattle.cache_kinds.specs.Kinds.{composite_meaning};
 ghost use Rattle.mask_keys.specs.Equality.{equal_composites};
@@ -7,6 +7,7 @@ ghost use Rattle.mask_caches.specs.Adding.{HoldsAsMuch};
 ghost use Rattle.mask_caches.specs.Caches.{IsPassOf};
 ghost use Rattle.mask_caches.specs.Pinning.{ArePinned};
 ghost use Rattle.mask_caches.specs.declared.lease.Lease.TheVariants.{Pinned};
+ghost use Rattle.mask_caches.specs.Leases.{IsHomeLease};
 
 use crate::caches::Caches;
 use crate::lease::Lease;
@@ -48,6 +49,7 @@ impl Caches {
         requires { IsPassOf self.now pass }
         ensures pinned { IfOk result.1 (λ leases. ArePinned equal_composites composite_meaning self.now.composites pass.composites keys.items
             result.0.composites leases.items) }
+        ensures homes { IfOk result.1 (λ leases. All (IsHomeLease composite_meaning self.now.composites) leases.items) }
         ensures refused { IfErr result.1 (IsRefused equal_composites composite_meaning self.now.composites pass.composites keys.items result.0.composites) }
         ensures nothing { IfErr result.1 (λ refusal. GivesNothing pass.composites result.0.composites) }
         ensures holds { IfErr result.1 (λ refusal. HoldsAsMuch equal_composites composite_meaning self.now.composites pass.composites result.0.composites) }

@@ -2,18 +2,19 @@
 ghost use Rattle.std.specs.Prelude.{◌≡◌, true, false, [], IfOk, OnOk};
 ghost use Rattle.std.specs.Arc.{arc_value};
 ghost use Rattle.flight_cache.specs.Shards.{IsCacheOf};
-ghost use Rattle.cache_kinds.specs.Kinds.{region_meaning};
+ghost use Rattle.cache_kinds.specs.Kinds.{is_widened, region_meaning};
 ghost use Rattle.mask_keys.specs.Equality.{equal_regions};
 ghost use Rattle.mask_keys.specs.Keys.{IsValidRegion, unwidened};
 ghost use Rattle.mask_keys.specs.Outlines.{glyph_counts};
 ghost use Rattle.mask_keys.specs.Values.{region_value};
-ghost use Rattle.mask_caches.specs.Adding.{Adds, HoldsAsMuch};
+ghost use Rattle.mask_caches.specs.Adding.{Adds, HoldsAsMuch, IsFree};
 ghost use Rattle.mask_caches.specs.Courses.{Course, HoldsTheLease, IsHadBy, course_steps, has_value, use_steps};
-ghost use Rattle.mask_caches.specs.Visits.{IsRegionVisit, RegionVisit, is_widened, region_steps};
+ghost use Rattle.mask_caches.specs.Visits.{HasWidenedOpen, IsRegionVisit, RegionVisit, region_steps};
+ghost use Rattle.mask_caches.specs.Leases.{IsHomeLease};
 
 use crate::caches::Caches;
 use crate::lease::{Lease, give_back};
-use crate::lending::{ask, settle};
+use crate::lending::settle;
 use ass_num::{Mem, OutOfMemory, Region};
 use cache_kinds::RegionMade;
 use flight_cache::{Asked, CachePass};
@@ -53,12 +54,14 @@ impl Caches {
         requires pass { IsCacheOf self.now.regions pass }
         requires key { IsValidRegion (glyph_counts (arc_value self.now.fonts).fonts) key.now }
         requires outline { is_widened key.now ≡ false }
+        requires free { HasWidenedOpen self.now.regions pass }
         ensures visit { (course : Course)
             × Adds equal_regions region_meaning self.now.regions pass result.0 (course_steps region_meaning self.now.regions.tag key.now course [])
             × IsHadBy region_meaning self.now.regions.tag key.now course result.1 }
         ensures holds { HoldsTheLease equal_regions region_meaning self.now.regions pass result.0 result.1 }
+        ensures home { IfOk result.1 (IsHomeLease region_meaning self.now.regions) }
     {
-        let (pass, asked) = ask(&self.regions, rt, alloc, pass, key);
+        let (pass, asked) = self.ask_outline(rt, alloc, pass, key);
         match asked {
             Asked::Hit(pin) => (pass, Ok(Lease::Pinned(pin))),
             Asked::Make(duty) => {
@@ -81,6 +84,7 @@ impl Caches {
     ) -> (CachePass<RegionMade>, Mem<Arc<Region>>)
         requires pass { IsCacheOf self.now.regions pass }
         requires key { IsValidRegion (glyph_counts (arc_value self.now.fonts).fonts) key.now }
+        requires free { HasWidenedOpen self.now.regions pass }
         ensures outline { (course : Course)
             × Adds equal_regions region_meaning self.now.regions pass result.0 (use_steps region_meaning self.now.regions.tag (unwidened key.now) course [])
             × OnOk result.1 (has_value course ≡ true) }
@@ -113,12 +117,14 @@ impl Caches {
         requires pass { IsCacheOf self.now.regions pass }
         requires key { IsValidRegion (glyph_counts (arc_value self.now.fonts).fonts) key.now }
         requires widened { is_widened key.now ≡ true }
+        requires free { IsFree equal_regions region_meaning self.now.regions pass }
         ensures visit { (visit : RegionVisit) × IsRegionVisit key.now visit
             × Adds equal_regions region_meaning self.now.regions pass result.0 (region_steps self.now.regions.tag key.now visit)
             × IsHadBy region_meaning self.now.regions.tag key.now visit.course result.1 }
         ensures holds { HoldsTheLease equal_regions region_meaning self.now.regions pass result.0 result.1 }
+        ensures home { IfOk result.1 (IsHomeLease region_meaning self.now.regions) }
     {
-        let (pass, asked) = ask(&self.regions, rt, alloc, pass, key);
+        let (pass, asked) = self.ask_region(rt, alloc, pass, key);
         match asked {
             Asked::Hit(pin) => (pass, Ok(Lease::Pinned(pin))),
             Asked::Make(duty) => {
@@ -140,10 +146,12 @@ impl Caches {
     ) -> (CachePass<RegionMade>, Mem<Lease<RegionMade>>)
         requires pass { IsCacheOf self.now.regions pass }
         requires key { IsValidRegion (glyph_counts (arc_value self.now.fonts).fonts) key.now }
+        requires free { IsFree equal_regions region_meaning self.now.regions pass }
         ensures visit { (visit : RegionVisit) × IsRegionVisit key.now visit
             × Adds equal_regions region_meaning self.now.regions pass result.0 (region_steps self.now.regions.tag key.now visit)
             × IsHadBy region_meaning self.now.regions.tag key.now visit.course result.1 }
         ensures holds { HoldsTheLease equal_regions region_meaning self.now.regions pass result.0 result.1 }
+        ensures home { IfOk result.1 (IsHomeLease region_meaning self.now.regions) }
     {
         if is_widened(key) {
             self.widened(rt, alloc, pass, key, hook)

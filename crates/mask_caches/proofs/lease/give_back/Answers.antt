@@ -2,6 +2,9 @@ use Rattle.std.proofs.Common.{refl}
 use Rattle.mask_caches.proofs.Adding.{adds-none, adds-unpin}
 use Rattle.mask_caches.proofs.lease.give_back.Goals as goal
 
+pub unpin-requires-clause-own : goal.unpin-requires-clause-own
+unpin-requires-clause-own g c = rw c.in-Pinned.is at c.requires.own
+
 pub unpin-requires-clause-held : goal.unpin-requires-clause-held
 unpin-requires-clause-held g c = rw c.in-Pinned.is at c.requires.held
 

@@ -7,7 +7,7 @@ pub fill-requires-clause-cost : goal.fill-requires-clause-cost
 fill-requires-clause-cost g c = rw c.in-Ok.is at c.requires.cost
 
 pub returns-in-Ok : goal.returns-in-Ok
-returns-in-Ok g c = record { steps = c.fill.ensures.steps; settled = rw c.in-Ok.is c.fill.ensures.settled }
+returns-in-Ok g c = record { steps = c.fill.ensures.steps; settled = rw c.in-Ok.is c.fill.ensures.settled; home = c.fill.ensures.home }
 
 pub returns-in-Err : goal.returns-in-Err
-returns-in-Err g c = record { steps = c.fail-pass.ensures; settled = rw c.in-Err.is tt }
+returns-in-Err g c = record { steps = c.fail-pass.ensures; settled = rw c.in-Err.is tt; home = tt }

@@ -10,3 +10,6 @@ warm_keys-requires-clause-keys g c =
     rw (c.split_at-2.ensures.front, c.split_at.ensures.back)
     (All-take (IsValidComposite (glyph_counts (arc_value c.args.caches.now.fonts).fonts)) c.args.count (drop c.args.place c.args.keys.now)
     (All-drop (IsValidComposite (glyph_counts (arc_value c.args.caches.now.fonts).fonts)) c.args.place c.args.keys.now c.requires.keys))
+
+pub returns-clause-unkept : goal.returns-clause-unkept
+returns-clause-unkept g c = rw (← c.split_at.ensures.back, ← c.split_at-2.ensures.front) c.warm_keys.ensures.unkept

@@ -1,3 +1,4 @@
+use Rattle.std.proofs.Common.{◌∙◌}
 use Rattle.cache_kinds.specs.Kinds.{composite_meaning, mask_meaning, region_meaning}
 use Rattle.mask_keys.specs.Equality.{equal_composites, equal_masks, equal_regions}
 use Rattle.mask_keys.proofs.Equal.{composite_same}
@@ -23,11 +24,16 @@ returns-clause-value g c =
 
 pub returns-clause-pass : goal.returns-clause-pass
 returns-clause-pass g c =
-    let t = c.visit_composite-passes.ensures.composed in
+    let t = c.visit_composite-passes.ensures.composed in let h = c.visit_composite-passes.ensures.holds in
     record {
       regions = adds-stays equal_regions region_meaning c.args.self.now.regions c.args.pass.regions c.visit_composite-passes.result.0.regions _ c.requires.pass.regions t.regions;
       masks = adds-stays equal_masks mask_meaning c.args.self.now.masks c.args.pass.masks c.visit_composite-passes.result.0.masks _ c.requires.pass.masks t.masks;
       composites = adds-stays equal_composites composite_meaning c.args.self.now.composites c.args.pass.composites c.visit_composite-passes.result.0.composites _ c.requires.pass.composites t.composites;
+      free = record {
+        regions = λ k. h.regions.claims k ∙ c.requires.pass.free.regions k;
+        masks = λ k. h.masks.claims k ∙ c.requires.pass.free.masks k;
+        composites = λ k. h.composites.claims k ∙ c.requires.pass.free.composites k;
+      };
     }
 
 pub returns-clause-held : goal.returns-clause-held

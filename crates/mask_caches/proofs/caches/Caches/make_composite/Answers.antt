@@ -43,6 +43,7 @@ give_all_back-masks-requires g c =
     record {
       cell = adds-stays equal_masks mask_meaning cache c.args.masks r.masks _ c.requires.masks c.visit_masks-regions.ensures.visits.3;
       held = more-held equal_masks mask_meaning cache c.args.masks r.masks r.masks (pinned_keys r.leases.items) c.visit_masks-regions.ensures.holds;
+      own = c.visit_masks-regions.ensures.homes;
     }
 
 pub returns : goal.returns

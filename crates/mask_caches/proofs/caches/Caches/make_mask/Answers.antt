@@ -39,6 +39,7 @@ give_back-requires g c =
     record {
       cell = adds-stays equal_regions region_meaning c.args.self.now.regions c.args.regions c.region-regions.result.0 _ c.requires.pass v.2;
       held = lease-held equal_regions region_laws.laws-law region_same region_meaning c.args.self.now.regions c.args.regions c.region-regions.result.0 c.in-Ok-had.lease holds;
+      own = rw c.in-Ok-had.is at c.region-regions.ensures.home;
     }
 
 pub returns-in-Ok-had : goal.returns-in-Ok-had

@@ -36,6 +36,7 @@ give_back-requires g c =
     record {
       cell = adds-stays equal_regions region_meaning c.args.self.now.regions c.args.pass c.outline-pass.result.0 _ c.requires.pass v.1;
       held = lease-held equal_regions region_laws.laws-law region_same region_meaning c.args.self.now.regions c.args.pass c.outline-pass.result.0 c.in-Ok-had.lease holds;
+      own = rw c.in-Ok-had.is at c.outline-pass.ensures.home;
     }
 
 pub returns-in-Ok-had : goal.returns-in-Ok-had

@@ -1,4 +1,4 @@
-use Rattle.std.proofs.Common.{inl, refl, sym, ◌∙◌, arith}
+use Rattle.std.proofs.Common.{List, All, map, inl, refl, sym, ap, ◌∙◌, subst, arith}
 use Rattle.turn_cell.proofs.Passes.{Follows_same}
 use Rattle.flight_cache.specs.Pinning.{GivesNothing}
 use Rattle.flight_cache.proofs.Claiming.{on-ok}
@@ -10,6 +10,17 @@ use Rattle.mask_keys.specs.contracts.composite_key.CompositeKeyEq.TheImpl.Laws a
 use Rattle.mask_caches.proofs.Adding.{later-itself}
 use Rattle.mask_caches.proofs.Pinned.{nothing-much, pin-each, pinned-more, tried-later}
 use Rattle.mask_caches.proofs.Staying.{together-later}
+use Rattle.std.specs.declared.alloc.Global.{Global}
+use Rattle.std.specs.declared.sync.Arc.{Arc}
+use Rattle.ass_num.specs.Masks.{MaskValue}
+use Rattle.bdf_font.specs.declared.sets.FontSet.{FontSet}
+use Rattle.cache_kinds.specs.declared.kinds.CompositeMade.{CompositeMade}
+use Rattle.flight_cache.specs.Meaning.{shard_of}
+use Rattle.flight_cache.specs.Shards.{at}
+use Rattle.mask_keys.specs.declared.composite_key.CompositeKey.{CompositeKey}
+use Rattle.mask_caches.specs.Leases.{IsHomeLease}
+use Rattle.mask_caches.specs.declared.lease.Lease.{Lease}
+use Rattle.mask_caches.proofs.Homes.{pinned-home}
 use Rattle.mask_caches.proofs.caches.Caches.try_composites.Goals as goal
 use Rattle.mask_caches.proofs.Holding.{much-itself}
 
@@ -19,6 +30,7 @@ returns-then-is_err c =
     let same : GivesNothing p p = record { first = Follows_same p.first; second = Follows_same p.second; third = Follows_same p.third; fourth = Follows_same p.fourth } in
     record {
       pinned = tt;
+      homes = tt;
       refused = inl refl;
       nothing = same;
       holds = much-itself equal_composites composite_meaning c.args.self.now.composites p;
@@ -46,13 +58,16 @@ leases_of-requires-clause-room c =
 pub returns-in-Ok : goal.returns-in-Ok
 returns-in-Ok c =
     let pinned = rw c.in-Ok.is at c.try_pin_all-composites.ensures.pinned in
+    let more = pinned-more equal_composites composite_meaning c.args.self.now.composites c.args.pass.composites c.try_pin_all-composites.result.0 composite_laws.laws-law composite_same c.proof_numbered.ensures c.args.keys.items c.in-Ok.pins.items pinned in
     record {
       pinned = record {
         pins = c.in-Ok.pins.items;
         are = c.leases_of.ensures;
         pinned = pinned;
-        holds = pinned-more equal_composites composite_meaning c.args.self.now.composites c.args.pass.composites c.try_pin_all-composites.result.0 composite_laws.laws-law composite_same c.proof_numbered.ensures c.args.keys.items c.in-Ok.pins.items pinned;
+        holds = more;
       };
+      homes = subst (λ (l : List (Lease CompositeMade CompositeKey MaskValue (Arc FontSet Global))). All (IsHomeLease composite_meaning c.args.self.now.composites) l) (sym c.leases_of.ensures)
+          (pinned-home composite_meaning c.args.self.now.composites c.in-Ok.pins.items (pinned.cells_are ∙ ap (map (λ k. (at c.args.self.now.composites.shards (shard_of ((composite_meaning {Z = Global}).numbers k))).id)) (sym pinned.keys_are)));
       refused = tt;
       nothing = tt;
       holds = tt;
@@ -64,6 +79,7 @@ returns-in-Ok c =
         composites = stays_of_cache c.args.self.now.composites c.args.pass.composites c.try_pin_all-composites.result.0 c.requires.composites
             (tried-later equal_composites composite_meaning c.args.self.now.composites c.args.pass.composites c.try_pin_all-composites.result.0 composite_laws.laws-law composite_same c.proof_numbered.ensures c.args.keys.items
             (λ pins. pins.items) c.try_pin_all-composites.result.1 c.try_pin_all-composites.ensures.pinned c.try_pin_all-composites.ensures.nothing);
+        free = record { regions = c.requires.free.regions; masks = c.requires.free.masks; composites = λ k. more.claims k ∙ c.requires.free.composites k };
       };
     }
 
@@ -71,11 +87,13 @@ pub returns-in-Err : goal.returns-in-Err
 returns-in-Err c =
     let refused = rw c.in-Err.is at c.try_pin_all-composites.ensures.refused in
     let nothing = rw c.in-Err.is at c.try_pin_all-composites.ensures.nothing in
+    let much = nothing-much equal_composites composite_meaning c.args.self.now.composites c.args.pass.composites c.try_pin_all-composites.result.0 nothing in
     record {
       pinned = tt;
+      homes = tt;
       refused = refused;
       nothing = nothing;
-      holds = nothing-much equal_composites composite_meaning c.args.self.now.composites c.args.pass.composites c.try_pin_all-composites.result.0 nothing;
+      holds = much;
       masks = refl;
       regions = refl;
       pass = record {
@@ -84,5 +102,6 @@ returns-in-Err c =
         composites = stays_of_cache c.args.self.now.composites c.args.pass.composites c.try_pin_all-composites.result.0 c.requires.composites
             (tried-later equal_composites composite_meaning c.args.self.now.composites c.args.pass.composites c.try_pin_all-composites.result.0 composite_laws.laws-law composite_same c.proof_numbered.ensures c.args.keys.items
             (λ pins. pins.items) c.try_pin_all-composites.result.1 c.try_pin_all-composites.ensures.pinned c.try_pin_all-composites.ensures.nothing);
+        free = record { regions = c.requires.free.regions; masks = c.requires.free.masks; composites = λ k. much.claims k ∙ c.requires.free.composites k };
       };
     }
