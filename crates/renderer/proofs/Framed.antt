@@ -22,7 +22,7 @@ use Rattle.mask_keys.specs.Pictures.{image_of_draw}
 use Rattle.renderer.specs.ShownFrames.{FrameImage, image_shown, leases_of}
 use Rattle.renderer.specs.declared.frames.Frame.{Frame}
 use Rattle.renderer.specs.Frames.{IsFrameOf, frame_with}
-use Rattle.renderer.specs.Holding.{HoldsFrameMore, HoldsJustTheFrame}
+use Rattle.renderer.specs.Holding.{HoldsFrameMore, HoldsJustTheFrame, IsHomeFrame}
 use Rattle.mask_keys.specs.PlanKeys.{plan_keys}
 use Rattle.renderer.specs.Leasing.{IsLent, IsUnlent}
 use Rattle.renderer.specs.OneHistory.{ShowsOneHistory}
@@ -100,6 +100,7 @@ pub record IsFrameGiven {E : Type 0} (renderer : RendererView) (pass after : Ren
   pub history : IfOk given (ShowsOneHistory renderer pass after t size)
   pub came : Came given
   pub holds : HoldsJustTheFrame renderer pass after given
+  pub home : IfOk given (IsHomeFrame renderer)
 
 -- by what was had of the images
 pub frame-given : {E : Type 0} (renderer : RendererView) (track later : TrackView) (old new : CachesPass) (t : ℤ) (size : Size) (scene : Scene) (images : Result (List FrameImage) E) → IsPassOfRenderer renderer (pass_of track old) → IsTurn track later None
@@ -108,10 +109,11 @@ pub frame-given : {E : Type 0} (renderer : RendererView) (track later : TrackVie
 frame-given renderer track later old new t size scene (Ok images) of turn shown lent =
     let f = subst (λ (s : ℤ). IsFramed renderer (pass_of track old) (pass_of later new) t size (record { n = scene.n; t = s; size = size; images = images })) (sym shown.instant)
     (framed renderer track later old new t size scene images of turn shown lent) in
-    record { of = f.of; history = f.history; came = f.rendered; holds = f.holds }
+    record { of = f.of; history = f.history; came = f.rendered; holds = f.holds; home = lent.lent.homes }
 frame-given renderer track later old new t size scene (Err refused) of turn shown unlent = record {
   of = record { track = turn-of renderer track later None of.track turn; caches = unlent.of };
   history = tt;
   came = record { turn = turn; unleased = unlent.unleased };
   holds = unlent.holds;
+  home = tt;
 }

@@ -21,9 +21,9 @@ use Rattle.mask_keys.specs.declared.region_key.RegionKey.{RegionKey}
 use Rattle.mask_caches.specs.Adding.{Adds, HoldsAsMuch, HoldsMore}
 use Rattle.mask_caches.specs.Caches.{HoldsAsBefore, IsPassOf}
 use Rattle.mask_caches.specs.Composing.{HoldsJustTheLease, IsComposed}
-use Rattle.mask_caches.specs.Courses.{Course, Found, Filled, Failed, MadeApart, FailedApart, Unasked, HoldsTheLease, IsLeaseOf, has_pin, has_value, unpin_steps}
+use Rattle.mask_caches.specs.Courses.{Course, Found, Filled, Failed, MadeApart, FailedApart, Spilled, Unasked, HoldsTheLease, IsLeaseOf, has_pin, has_value, unpin_steps}
 use Rattle.mask_caches.specs.Holding.{all_given_steps, pinned_keys}
-use Rattle.mask_caches.specs.Leases.{given_steps}
+use Rattle.mask_caches.specs.Leases.{given_steps, IsHomeLease}
 use Rattle.mask_caches.specs.Threes.{three_of}
 use Rattle.mask_caches.specs.Visits.{CompositeVisit, IsCompositeVisit, composite_steps, steps_of_its_masks, steps_of_its_regions}
 use Rattle.mask_caches.specs.declared.caches.Caches.{Caches}
@@ -37,7 +37,8 @@ use Rattle.mask_caches.specs.Warming.{KeyVisit, visit_mask_steps, visit_region_s
 use Rattle.renderer.specs.Leasing.{AddsVisits, AreAllLeased, AreKeyVisits, AreLeased, AreLeasesBy, AreUnleased, IsLent, IsUnlent, visit_steps, visit_unpins}
 use Rattle.renderer.proofs.Held.{leases-given, leases-held}
 use Rattle.renderer.proofs.GivenLeases.{GivesLeases, gives-fewer}
-use Rattle.mask_caches.proofs.Warmed.{before-itself}
+use Rattle.mask_caches.proofs.KeysWarmed.{before-itself}
+use Rattle.mask_caches.proofs.Visiting.{own-unpins, own-value}
 
 abbrev key_of : KeyVisit → CompositeKey
 key_of v = v.key
@@ -126,11 +127,12 @@ value-of-pin Filled h = refl
 value-of-pin Failed h = h
 value-of-pin MadeApart h = refl
 value-of-pin FailedApart h = h
+value-of-pin Spilled h = refl
 value-of-pin Unasked h = h
 
 lease-has-value : (fonts : Arc FontSet Global) (key : CompositeKey) (course : Course) (lease : MaskLease) → IsLeaseOf composite_meaning fonts key course lease → has_value course ≡ true
 lease-has-value fonts key course (Pinned pin) h = value-of-pin course h.0
-lease-has-value fonts key course (Own value) h = ap has_value h.0
+lease-has-value fonts key course (Own value) h = own-value course h.0
 
 -- a pin of it gives one unpin back, and else nothing is given back
 unpin-of-pin : (fonts : Arc FontSet Global) (key : CompositeKey) (course : Course) → has_pin course ≡ true → unpin_steps composite_meaning fonts key course ≡ Unpin key ∷ []
@@ -139,11 +141,12 @@ unpin-of-pin fonts key Filled h = refl
 unpin-of-pin fonts key Failed h = cc
 unpin-of-pin fonts key MadeApart h = cc
 unpin-of-pin fonts key FailedApart h = cc
+unpin-of-pin fonts key Spilled h = cc
 unpin-of-pin fonts key Unasked h = cc
 
 given-of-lease : (fonts : Arc FontSet Global) (key : CompositeKey) (course : Course) (lease : MaskLease) → IsLeaseOf composite_meaning fonts key course lease → given_steps lease ≡ unpin_steps composite_meaning fonts key course
 given-of-lease fonts key course (Pinned pin) h = ap (λ (k : CompositeKey). Unpin k ∷ []) h.1 ∙ sym (unpin-of-pin fonts key course h.0)
-given-of-lease fonts key course (Own value) h = ap (λ (course : Course). unpin_steps composite_meaning fonts key course) (sym h.0)
+given-of-lease fonts key course (Own value) h = own-unpins composite_meaning fonts key course h.0
 
 abbrev unpins_of : Arc FontSet Global → KeyVisit → List (Step CompositeKey MaskValue)
 unpins_of fonts v = unpin_steps composite_meaning fonts v.key v.visit.course
@@ -238,6 +241,7 @@ module _ (caches : Caches) where
   unpins-none key Failed h = refl
   unpins-none key MadeApart h = cc
   unpins-none key FailedApart h = refl
+  unpins-none key Spilled h = cc
   unpins-none key Unasked h = refl
 
   unleased-one : {E : Type 0} (p q : CachesPass) (key : CompositeKey) (refused : E) → IsComposed {M = CompositeMade} caches (three_of p) key (three_of q) (Err refused) → AreUnleased caches p q (key ∷ [])
@@ -303,14 +307,16 @@ module _ (caches : Caches) where
       masks = much-itself equal_masks mask_meaning caches.masks p.masks;
       regions = much-itself equal_regions region_meaning caches.regions p.regions;
     };
+    homes = All-nil (IsHomeLease composite_meaning caches.composites);
   }
 
   lent-one : {E : Type 0} (p q : CachesPass) (key : CompositeKey) (lease : MaskLease) → IsPassOf caches q → IsComposed {E = E} caches (three_of p) key (three_of q) (Ok lease) → HoldsJustTheLease {E = E} caches (three_of p) key (three_of q) (Ok lease)
-      → IsLent caches p q (key ∷ []) (lease ∷ [])
-  lent-one {E} p q key lease of h holds = record {
+      → IsHomeLease composite_meaning caches.composites lease → IsLent caches p q (key ∷ []) (lease ∷ [])
+  lent-one {E} p q key lease of h holds home = record {
     of = of;
     leased = leased-one {E = E} p q key lease h;
     holds = record { composites = held-one {E = E} p q lease holds.composites; masks = holds.masks; regions = holds.regions };
+    homes = All-cons (IsHomeLease composite_meaning caches.composites) lease [] home (All-nil (IsHomeLease composite_meaning caches.composites));
   }
 
   unlent-one : {E : Type 0} (p q : CachesPass) (key : CompositeKey) (refused : E) → IsPassOf caches q → IsComposed {M = CompositeMade} caches (three_of p) key (three_of q) (Err refused)
@@ -323,9 +329,9 @@ module _ (caches : Caches) where
 
   -- what is had of a key, and what a out of memory leaves
   pub lent-by : {E : Type 0} (p q : CachesPass) (key : CompositeKey) (had : Result MaskLease E) → IsPassOf caches q → IsComposed caches (three_of p) key (three_of q) had → HoldsJustTheLease caches (three_of p) key (three_of q) had
-      → IfOk had (λ lease. IsLent caches p q (key ∷ []) (lease ∷ []))
-  lent-by {E} p q key (Ok lease) of h holds = lent-one {E = E} p q key lease of h holds
-  lent-by p q key (Err refused) of h holds = tt
+      → IfOk had (IsHomeLease composite_meaning caches.composites) → IfOk had (λ lease. IsLent caches p q (key ∷ []) (lease ∷ []))
+  lent-by {E} p q key (Ok lease) of h holds home = lent-one {E = E} p q key lease of h holds home
+  lent-by p q key (Err refused) of h holds home = tt
 
   pub unlent-by : {E : Type 0} (p q : CachesPass) (key : CompositeKey) (had : Result MaskLease E) → IsPassOf caches q → IsComposed caches (three_of p) key (three_of q) had → HoldsJustTheLease caches (three_of p) key (three_of q) had
       → OnErr had (IsUnlent caches p q (key ∷ []))
@@ -342,6 +348,7 @@ module _ (caches : Caches) where
       masks = much-then equal_masks mask_meaning caches.masks p.masks q.masks r.masks f.holds.masks g.holds.masks;
       regions = much-then equal_regions region_meaning caches.regions p.regions q.regions r.regions f.holds.regions g.holds.regions;
     };
+    homes = All-append (IsHomeLease composite_meaning caches.composites) leases later f.homes g.homes;
   }
 
   -- after a out of memory, what was had before it is held

@@ -11,3 +11,7 @@ pub mod Tried
 pub mod TriedFirst
 pub mod Warmed
 pub mod PaintedPictures
+pub mod FromEntry
+pub mod TriedWithin
+pub mod Homes
+pub mod Owned

@@ -42,7 +42,7 @@ use Rattle.renderer.specs.ShownFrames.{FrameImage, MaskLease, image_shown, lease
 use Rattle.renderer.specs.declared.frames.Frame.{Frame}
 use Rattle.mask_keys.specs.PlanKeys.{plan_keys}
 use Rattle.renderer.specs.Frames.{IsFrameOf, frame_with}
-use Rattle.renderer.specs.Holding.{HoldsFrameMore, HoldsLeasesMore, HoldsTheSame}
+use Rattle.renderer.specs.Holding.{HoldsFrameMore, HoldsLeasesMore, HoldsTheSame, AreHome}
 use Rattle.renderer.specs.OneHistory.{ShowsOneHistory}
 use Rattle.renderer.specs.Passes.{IsPassOfRenderer, RendererView}
 use Rattle.renderer.specs.declared.trying.TryRefusal.{TryRefusal}
@@ -50,6 +50,7 @@ use Rattle.renderer.specs.Trying.{AddsNothing, AreDrawsPinned, AreImagesRefused,
 use Rattle.renderer.proofs.Framed.{IsFrameGiven}
 use Rattle.renderer.proofs.Pictures.{frame-history}
 use Rattle.renderer.proofs.Together.{pass_of}
+use Rattle.mask_caches.proofs.Homes.{pinned-leases-home}
 
 -- ---- leases that are pins
 
@@ -83,6 +84,10 @@ module _ (caches : Caches) (old new : CachesPass) (keys : List CompositeKey) (le
     masks = rw others.masks (much-itself equal_masks mask_meaning caches.masks old.masks);
     regions = rw others.regions (much-itself equal_regions region_meaning caches.regions old.regions);
   }
+
+-- pins that were had all at once are of their cache
+pub images-home : (renderer : RendererView) (old new : CachesPass) (images : List FrameImage) (events : List Event) (t : ℤ) (size : Size) → AreDrawsPinned renderer old new events t size images → AreHome renderer.caches (leases_of images)
+images-home renderer old new images events t size had = pinned-leases-home equal_composites composite_meaning renderer.caches.composites old.composites (plan_keys had.draws) new.composites (leases_of images) had.pinned
 
 -- ---- nothing added
 
@@ -124,6 +129,7 @@ module _ (renderer : RendererView) (old new : CachesPass) (events : List Event) 
         → AreImagesRefused renderer old new events t size refusal
     refused-images refused.TurnOut is nothing = record { draws = draws; are_draws = are; refused = is; nothing = record { of = of; nothing = nothing; others = record { masks = masks; regions = regions } } }
     refused-images (refused.NotReady place) is nothing = record { draws = draws; are_draws = are; refused = is; nothing = record { of = of; nothing = nothing; others = record { masks = masks; regions = regions } } }
+    refused-images (refused.Making place) is nothing = record { draws = draws; are_draws = are; refused = is; nothing = record { of = of; nothing = nothing; others = record { masks = masks; regions = regions } } }
     refused-images (refused.PinsFull place) is nothing = record { draws = draws; are_draws = are; refused = is; nothing = record { of = of; nothing = nothing; others = record { masks = masks; regions = regions } } }
     refused-images refused.OutOfMemory is nothing =
         let added : AddsNothing renderer old new = record { of = of; nothing = nothing; others = record { masks = masks; regions = regions } } in
@@ -132,6 +138,7 @@ module _ (renderer : RendererView) (old new : CachesPass) (events : List Event) 
   refused-nothing : (refusal : PinRefusal) → AreImagesRefused renderer old new events t size refusal → AddsNothing renderer old new
   refused-nothing refused.TurnOut h = h.nothing
   refused-nothing (refused.NotReady place) h = h.nothing
+  refused-nothing (refused.Making place) h = h.nothing
   refused-nothing (refused.PinsFull place) h = h.nothing
   refused-nothing refused.OutOfMemory h = h.nothing
 
@@ -179,6 +186,7 @@ module _ (renderer : RendererView) (track later : TrackView) (old new : CachesPa
   pins-tried : (refusal : PinRefusal) → IsTurn track later None → AreImagesRefused renderer old new (live (history_of later.seen)) t size refusal → IsTried renderer (pass_of track old) (pass_of later new) t size (Err (pin_refusal refusal))
   pins-tried refused.TurnOut turn h = record { turn = turn; refused = h }
   pins-tried (refused.NotReady place) turn h = record { turn = turn; refused = h }
+  pins-tried (refused.Making place) turn h = record { turn = turn; refused = h }
   pins-tried (refused.PinsFull place) turn h = record { turn = turn; refused = h }
   pins-tried refused.OutOfMemory turn h = record { turn = turn; nothing = h.nothing; cause = h.cause }
 
@@ -198,11 +206,11 @@ module _ (renderer : RendererView) (track later : TrackView) (old new : CachesPa
       → IsFrameGiven renderer (pass_of track old) (pass_of later new) t size (IsTried renderer (pass_of track old) (pass_of later new) t size) (frame_with scene size told)
   given-tried scene (Ok images) told turn shown had is =
       let f = subst (λ (s : ℤ). IsFrameTried (record { n = scene.n; t = s; size = size; images = images })) (sym shown.instant) (frame-tried scene images turn shown had) in
-      rw is (record { of = f.pass; history = f.history; came = f.tried; holds = f.holds })
+      rw is (record { of = f.pass; history = f.history; came = f.tried; holds = f.holds; home = images-home renderer old new images (live (history_of later.seen)) t size had })
   given-tried scene (Err refusal) (Ok images) turn shown had is = absurd is
   given-tried scene (Err refusal) (Err why) turn shown had is =
       let f = pins-refused refusal turn had in
-      rw is (record { of = f.pass; history = tt; came = f.tried; holds = f.holds })
+      rw is (record { of = f.pass; history = tt; came = f.tried; holds = f.holds; home = tt })
 
 module _ (renderer : RendererView) (track later : TrackView) (caches : CachesPass) (t : ℤ) (size : Size) (of : IsPassOfRenderer renderer (pass_of track caches)) where
   look-tried : (refusal : LookRefusal) → IsTriedLook track t later (Err refusal) → IsTried renderer (pass_of track caches) (pass_of later caches) t size (Err (look_refusal refusal))

@@ -18,7 +18,7 @@ use Rattle.track_history.specs.declared.scene.Scene.{Scene}
 use Rattle.renderer.specs.ShownFrames.{FrameImage, MaskLease, leases_of}
 use Rattle.renderer.specs.Frames.{frame_with}
 use Rattle.renderer.specs.declared.frames.Frame.{Frame}
-use Rattle.renderer.specs.Holding.{HoldsFrameMore, HoldsLeasesMore, HoldsTheSame}
+use Rattle.renderer.specs.Holding.{HoldsFrameMore, HoldsLeasesMore, HoldsTheSame, AreHome}
 use Rattle.renderer.specs.OneHistory.{ShowsOneHistory}
 use Rattle.renderer.specs.Passes.{IsPassOfRenderer, RendererView}
 use Rattle.renderer.specs.Rendering.{AreImagesLent}
@@ -27,8 +27,8 @@ use Rattle.renderer.specs.Trying.{AreDrawsRefused, AreImagesRefused}
 use Rattle.renderer.proofs.Framed.{IsFrameGiven, framed}
 use Rattle.renderer.proofs.Pictures.{frame-history}
 use Rattle.renderer.proofs.Together.{pass_of, turn-of}
-use Rattle.renderer.proofs.Tried.{frame-tried, nothing-holds, wanting-itself}
-use Rattle.mask_caches.proofs.Warmed.{before-then}
+use Rattle.renderer.proofs.Tried.{frame-tried, nothing-holds, wanting-itself, images-home}
+use Rattle.mask_caches.proofs.KeysWarmed.{before-then}
 
 -- what is held more behind calls that hold as much
 pub leases-behind : (caches : Caches) (p q r : CachesPass) (leases : List MaskLease) → HoldsAsBefore caches p q → HoldsLeasesMore caches q r leases → HoldsLeasesMore caches p r leases
@@ -49,6 +49,7 @@ module _ (renderer : RendererView) (old between new : CachesPass) (events : List
   draws-refused : (refusal : PinRefusal) → refusal ≢ refused.OutOfMemory → AreImagesRefused renderer old between events t size refusal → AreDrawsRefused renderer old between events t size refusal
   draws-refused refused.TurnOut cause h = h
   draws-refused (refused.NotReady place) cause h = h
+  draws-refused (refused.Making place) cause h = h
   draws-refused (refused.PinsFull place) cause h = h
   draws-refused refused.OutOfMemory cause h = absurd (cause refl)
 
@@ -56,6 +57,10 @@ module _ (renderer : RendererView) (old between new : CachesPass) (events : List
   pub lent-soon : {E : Type 0} (refusal : PinRefusal) (had : Result (List FrameImage) E) → refusal ≢ refused.OutOfMemory → AreImagesRefused renderer old between events t size refusal → AreImagesLent renderer between new events t size had → AreImagesSoon renderer old new events t size had
   lent-soon refusal (Ok images) cause h lent = inr (record { between = between; refusal = refusal; cause = cause; refused = draws-refused refusal cause h; lent = lent })
   lent-soon refusal (Err wanting) cause h lent = inr (record { between = between; refusal = refusal; cause = cause; refused = draws-refused refusal cause h; lent = lent })
+
+pub soon-home : (renderer : RendererView) (old new : CachesPass) (images : List FrameImage) (events : List Event) (t : ℤ) (size : Size) → AreImagesSoon renderer old new events t size {E = OutOfMemory} (Ok images) → AreHome renderer.caches (leases_of images)
+soon-home renderer old new images events t size (inl pinned) = images-home renderer old new images events t size pinned
+soon-home renderer old new images events t size (inr h) = h.lent.lent.homes
 
 -- ---- frames
 
@@ -107,7 +112,7 @@ module _ (renderer : RendererView) (track later : TrackView) (old new : CachesPa
       → IsFrameGiven renderer (pass_of track old) (pass_of later new) t size (IsTriedThenRendered renderer (pass_of track old) (pass_of later new) t size) (frame_with scene size images)
   given-soon scene (Ok images) turn shown had =
       let f = subst (λ (s : ℤ). IsFrameSoon (record { n = scene.n; t = s; size = size; images = images })) (sym shown.instant) (frame-soon scene images turn shown had) in
-      record { of = f.pass; history = f.history; came = f.rendered; holds = f.holds }
+      record { of = f.pass; history = f.history; came = f.rendered; holds = f.holds; home = soon-home renderer old new images (live (history_of later.seen)) t size had }
   given-soon scene (Err wanting) turn shown had =
       let f = frame-wanting wanting turn had in
-      record { of = f.pass; history = tt; came = f.rendered; holds = f.holds }
+      record { of = f.pass; history = tt; came = f.rendered; holds = f.holds; home = tt }

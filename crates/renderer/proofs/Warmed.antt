@@ -1,5 +1,6 @@
 -- Plans at instants in a row, their keys, and what warming all of these gives.
 use Rattle.std.proofs.Common.{◌≡◌, ℕ, ℤ, ◌+◌, ◌<◌, List, [], ◌∷◌, ◌++◌, flat_map, length, take, get_or, None, Result, Ok, Err, All, sym, ap, subst, ◌∙◌, append-nil, arith}
+use Rattle.std.specs.Option.{option_to_list}
 use Rattle.std.specs.Result.{IfOk, OnErr, OnOk}
 use Rattle.std.proofs.Math.Seq.{take-length}
 use Rattle.std.proofs.lemmas.Grind.{flat_map-append}
@@ -24,7 +25,14 @@ use Rattle.turn_cell.proofs.Passes.{Follows_same, Follows_trans}
 use Rattle.mask_caches.specs.Aheads.{AheadView, next_count, next_keys}
 use Rattle.mask_keys.specs.PlanKeys.{plan_keys}
 use Rattle.mask_caches.specs.Firsts.{firsts}
-use Rattle.mask_caches.specs.Warming.{AreWarmed}
+use Rattle.mask_caches.specs.Warming.{AddsWarming, AreWarmed}
+use Rattle.mask_caches.specs.Keeping.{unkept_in}
+use Rattle.mask_caches.specs.declared.caches.Caches.{Caches}
+use Rattle.mask_caches.specs.declared.warming.Prefetched.{Prefetched}
+use Rattle.mask_caches.proofs.KeysWarmed.{warming-then}
+use Rattle.cache_kinds.specs.Kinds.{composite_meaning}
+use Rattle.flight_cache.specs.Budgets.{shown_budgets}
+use Rattle.flight_cache.specs.Shards.{EachGives, Shards}
 use Rattle.mask_caches.proofs.Firsts.{firsts-again}
 use Rattle.renderer.specs.Passes.{RendererView}
 use Rattle.renderer.specs.Warming.{ArePlansSeen, IsWarmed, IsWarmedTo, Next, None as NoneSeen, Refused, keys_ahead}
@@ -111,9 +119,23 @@ next-all ahead most first left =
     let count : next_count most ahead ≡ length ahead.keys = rw (first, all) (grind arith) in
     (count, rw (count, first) (take-length ahead.keys))
 
-module _ (renderer : RendererView) (track later : TrackView) (old new : CachesPass) (instants : List ℤ) (size : Size) (ahead after : AheadView) where
+-- what warming adds behind turns that added nothing
+warmed-behind : (caches : Caches) (old begun new : CachesPass) (keys : List CompositeKey) (n : ℕ) → AddsWarming caches old begun [] → AreWarmed caches begun keys new n → AreWarmed caches old keys new n
+warmed-behind caches old begun new keys n nothing w = record {
+  warmed = w.warmed;
+  refused = w.refused;
+  count = w.count;
+  keys_are = w.keys_are;
+  each = w.each;
+  had = w.had;
+  whole = w.whole;
+  failed = w.failed;
+  adds = warming-then caches old begun new [] (w.warmed ++ option_to_list w.refused) nothing w.adds;
+}
+
+module _ (renderer : RendererView) (track later : TrackView) (old begun new : CachesPass) (instants : List ℤ) (size : Size) (ahead after : AheadView) (nothing : AddsWarming renderer.caches old begun []) where
   -- the first n of the keys of all instants were warmed
-  warmed-to : (most n : ℕ) (were : WereSeen renderer size track later instants ahead) → ahead.place + most ≡ length ahead.keys → AreWarmed renderer.caches old (next_keys most ahead) new n
+  warmed-to : (most n : ℕ) (were : WereSeen renderer size track later instants ahead) → ahead.place + most ≡ length ahead.keys → AreWarmed renderer.caches begun (next_keys most ahead) new n
       → IsWarmedTo renderer (pass_of track old) (pass_of later new) instants size were.plans n
   warmed-to most n were left warmed =
       let first = ap (λ (a : AheadView). a.place) were.keys in
@@ -122,20 +144,31 @@ module _ (renderer : RendererView) (track later : TrackView) (old new : CachesPa
         track = were.follows;
         turns = were.turns;
         are_plans = were.are_plans;
-        warmed = subst (λ (ks : List CompositeKey). AreWarmed renderer.caches old ks new n) keys warmed;
+        warmed = subst (λ (ks : List CompositeKey). AreWarmed renderer.caches old ks new n) keys (warmed-behind renderer.caches old begun new (next_keys most ahead) n nothing warmed);
       }
 
-  pub warmed-all : {E : Type 0} (most : ℕ) (had : Result ℕ E) → WereSeen renderer size track later instants ahead → ahead.place + most ≡ length ahead.keys
-      → IfOk had (λ n. (n ≡ next_count most ahead) × (after.place ≡ ahead.place + n)) → OnErr had (after.place < ahead.place + next_count most ahead)
-      → ((n : ℕ) × (after.place ≡ ahead.place + n) × AreWarmed renderer.caches old (next_keys most ahead) new n)
+  pub warmed-all : {E : Type 0} (most : ℕ) (budgets : Shards ℕ) (had : Result Prefetched E) → WereSeen renderer size track later instants ahead → ahead.place + most ≡ length ahead.keys
+      → EachGives equal_composites composite_meaning renderer.caches.composites.shards old.composites begun.composites (λ n. [])
+      → budgets ≡ shown_budgets equal_composites composite_meaning renderer.caches.composites begun.composites
+      → IfOk had (λ w. (w.count ≡ next_count most ahead) × (after.place ≡ ahead.place + w.count)) → IfOk had (λ w. w.unkept ≡ unkept_in renderer.caches.composites.tag budgets (next_keys most ahead))
+      → OnErr had (after.place < ahead.place + next_count most ahead) → ((n : ℕ) × (after.place ≡ ahead.place + n) × AreWarmed renderer.caches begun (next_keys most ahead) new n)
       → IsWarmed renderer (pass_of track old) (pass_of later new) instants size had
-  warmed-all most (Ok count) were left ok err warmed =
+  warmed-all most budgets (Ok w) were left looked shown ok unkept err warmed =
       let first = ap (λ (a : AheadView). a.place) were.keys in
       let all = ap (λ (a : AheadView). length a.keys) were.keys in
-      let counted = (next-all ahead most first left).0 in
-      let same : warmed.0 ≡ count = omega (arith, ok.1, warmed.1) in
-      (were.plans, ok.0 ∙ (counted ∙ all), subst (IsWarmedTo renderer (pass_of track old) (pass_of later new) instants size were.plans) same (warmed-to most warmed.0 were left warmed.2))
-  warmed-all most (Err refused) were left ok err warmed =
+      let next = next-all ahead most first left in
+      let keys = next.1 ∙ ap (λ (a : AheadView). a.keys) were.keys in
+      let same : warmed.0 ≡ w.count = omega (arith, ok.1, warmed.1) in (
+        were.plans,
+        ok.0 ∙ (next.0 ∙ all),
+        subst (IsWarmedTo renderer (pass_of track old) (pass_of later new) instants size were.plans) same (warmed-to most warmed.0 were left warmed.2),
+        record {
+          begun = begun;
+          looked = looked;
+          unkept_is = unkept ∙ (ap (unkept_in renderer.caches.composites.tag budgets) keys ∙ ap (λ (b : Shards ℕ). unkept_in renderer.caches.composites.tag b (keys_ahead were.plans)) shown);
+        },
+      )
+  warmed-all most budgets (Err refused) were left looked shown ok unkept err warmed =
       let first = ap (λ (a : AheadView). a.place) were.keys in
       let all = ap (λ (a : AheadView). length a.keys) were.keys in
       let counted = (next-all ahead most first left).0 in

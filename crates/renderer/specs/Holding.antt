@@ -1,5 +1,5 @@
 -- Public: the pins that a pass holds for frames.
-use Rattle.std.specs.Prelude.{List, Result, Ok, Err}
+use Rattle.std.specs.Prelude.{List, Result, Ok, Err, All}
 use Rattle.cache_kinds.specs.Kinds.{composite_meaning, mask_meaning, region_meaning}
 use Rattle.flight_cache.specs.Shards.{HoldsEach}
 use Rattle.mask_caches.specs.Adding.{HoldsAsMuch}
@@ -12,10 +12,15 @@ use Rattle.mask_keys.specs.Equality.{equal_composites, equal_masks, equal_region
 use Rattle.renderer.specs.ShownFrames.{MaskLease, leases_of}
 use Rattle.renderer.specs.declared.frames.Frame.{Frame}
 use Rattle.renderer.specs.Passes.{RenderView, RendererView}
+use Rattle.mask_caches.specs.Leases.{IsHomeLease}
 
 -- the pass holds a pin for each of the leases that is one
 abbrev pub HoldsLeases : Caches → CachesPass → List MaskLease → Type 0
 HoldsLeases caches pass leases = HoldsEach equal_composites composite_meaning caches.composites pass.composites (pinned_keys leases)
+
+-- each of the leases that is a pin is of the cache of composed masks
+abbrev pub AreHome : Caches → List MaskLease → Type 0
+AreHome caches leases = All (IsHomeLease composite_meaning caches.composites) leases
 
 module _ (caches : Caches) (pass after : CachesPass) where
   -- the pass holds just the pins of the leases more, all in the cache of composed masks
@@ -34,6 +39,10 @@ module _ (caches : Caches) (pass after : CachesPass) where
 
 abbrev pub HoldsFrame : RendererView → RenderView → Frame → Type 0
 HoldsFrame renderer pass frame = HoldsLeases renderer.caches pass.caches (leases_of frame.images)
+
+-- the frame's pins are the renderer's
+abbrev pub IsHomeFrame : RendererView → Frame → Type 0
+IsHomeFrame renderer frame = AreHome renderer.caches (leases_of frame.images)
 
 abbrev pub HoldsTheSame : RendererView → RenderView → RenderView → Type 0
 HoldsTheSame renderer pass after = HoldsAsBefore renderer.caches pass.caches after.caches

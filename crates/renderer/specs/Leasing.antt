@@ -16,7 +16,7 @@ use Rattle.mask_keys.specs.Equality.{equal_composites, equal_masks, equal_region
 use Rattle.mask_keys.specs.declared.composite_key.CompositeKey.{CompositeKey}
 use Rattle.mask_caches.specs.Warming.{KeyVisit, visit_mask_steps, visit_region_steps}
 use Rattle.renderer.specs.ShownFrames.{MaskLease}
-use Rattle.renderer.specs.Holding.{HoldsLeasesMore}
+use Rattle.renderer.specs.Holding.{HoldsLeasesMore, AreHome}
 
 -- the keys in their order, all or the first of them, where the mask of each but the last was had
 pub record AreKeyVisits (keys : List CompositeKey) (visits : List KeyVisit) : Type 0 where
@@ -66,11 +66,12 @@ module _ (caches : Caches) (pass after : CachesPass) (keys : List CompositeKey) 
     pub are_visits : AreKeyVisits keys visits
     pub adds : AddsVisits caches pass after visits (visit_unpins caches.composites.tag visits)
 
--- the leases are what calls in a row had of the keys, and the pass holds just their pins more
+-- the leases are what calls in a row had of the keys, the pass holds just their pins more, and these are of the cache
 pub record IsLent (caches : Caches) (pass after : CachesPass) (keys : List CompositeKey) (leases : List MaskLease) : Type 0 where
   pub of : IsPassOf caches after
   pub leased : AreLeased caches pass after keys leases
   pub holds : HoldsLeasesMore caches pass after leases
+  pub homes : AreHome caches leases
 
 -- memory ran out, and the pass holds what it held before
 pub record IsUnlent (caches : Caches) (pass after : CachesPass) (keys : List CompositeKey) : Type 0 where

@@ -6,7 +6,11 @@ pub mod OneHistory
 pub mod Leasing
 pub mod Rendering
 pub mod Trying
+pub mod Untold
 pub mod Soon
 pub mod Warming
 pub mod ShownFrames
 pub mod FontCodes
+pub mod Behind
+pub mod Within
+pub mod Owning

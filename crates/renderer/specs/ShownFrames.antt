@@ -51,6 +51,10 @@ canvas_of frame = picture_of frame.size (map image_shown frame.images)
 abbrev pub AreFramePixels : AlphaForm → Frame → List ℕ → Type 0
 AreFramePixels form frame bytes = AreAlphaRows form (map image_shown frame.images) frame.size.w 0 frame.size.h bytes
 
+-- two frames show the same images in the same size
+abbrev pub AreSameShown : Frame → Frame → Type 0
+AreSameShown a b = (a.size ≡ b.size) × (map image_shown a.images ≡ map image_shown b.images)
+
 -- The images of the frame are these draws, each with the masks of its keys.
 abbrev pub ShowsDraws : List FontValue → List Draw → Frame → Type 0
 ShowsDraws fonts draws frame = map image_shown frame.images ≡ map (image_of_draw fonts) draws

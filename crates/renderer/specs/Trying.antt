@@ -1,4 +1,4 @@
--- Public: what a call that tries for a frame gives, and what it adds to the track's history and to the caches.
+-- Public: what a call that tries for a frame and tells each cause gives, and what it adds to the track's history and to the caches.
 use Rattle.std.specs.Prelude.{◌≡◌, ◌⊎◌, ◌+◌, ℤ, List, map, Result, Ok, Err, None}
 use Rattle.ass_events.specs.Histories.{live}
 use Rattle.ass_events.specs.declared.event.Event.{Event}
@@ -38,6 +38,7 @@ look_refusal look.OutOfMemory = OutOfMemory
 abbrev pub pin_refusal : PinRefusal → TryRefusal
 pin_refusal refused.TurnOut = Again again.Cache
 pin_refusal (refused.NotReady place) = Again (again.NotReady place)
+pin_refusal (refused.Making place) = Again (again.Making place)
 pin_refusal (refused.PinsFull place) = Again (again.PinsFull place)
 pin_refusal refused.OutOfMemory = OutOfMemory
 
@@ -79,6 +80,7 @@ module _ (renderer : RendererView) (pass after : CachesPass) (events : List Even
   abbrev pub AreImagesRefused : PinRefusal → Type 0
   AreImagesRefused refused.TurnOut = AreDrawsRefused refused.TurnOut
   AreImagesRefused (refused.NotReady place) = AreDrawsRefused (refused.NotReady place)
+  AreImagesRefused (refused.Making place) = AreDrawsRefused (refused.Making place)
   AreImagesRefused (refused.PinsFull place) = AreDrawsRefused (refused.PinsFull place)
   AreImagesRefused refused.OutOfMemory = AreImagesWanting
 
@@ -117,5 +119,6 @@ module _ (renderer : RendererView) (pass after : RenderView) (t : ℤ) (size : S
   IsTried (Err (Again again.Track)) = IsTrackOut
   IsTried (Err (Again again.Cache)) = IsRefusedFrame refused.TurnOut
   IsTried (Err (Again (again.NotReady place))) = IsRefusedFrame (refused.NotReady place)
+  IsTried (Err (Again (again.Making place))) = IsRefusedFrame (refused.Making place)
   IsTried (Err (Again (again.PinsFull place))) = IsRefusedFrame (refused.PinsFull place)
   IsTried (Err OutOfMemory) = IsWanting

@@ -1,8 +1,14 @@
 -- Public: what a call that warms the caches ahead of time asks for.
-use Rattle.std.specs.Prelude.{◌≡◌, ℕ, ◌+◌, ◌<◌, ℤ, List, [], ◌∷◌, length, flat_map, Result, Ok, Err}
+use Rattle.std.specs.Prelude.{◌≡◌, ℕ, ◌+◌, ◌<◌, ℤ, List, [], ◌∷◌, length, flat_map, Option, Result, Ok, Err}
 use Rattle.ass_events.specs.Histories.{live}
 use Rattle.ass_num.specs.declared.size.Size.{Size}
+use Rattle.cache_kinds.specs.Kinds.{composite_meaning}
+use Rattle.flight_cache.specs.Budgets.{shown_budgets}
+use Rattle.flight_cache.specs.Shards.{EachGives}
 use Rattle.mask_caches.specs.Caches.{IsSamePass}
+use Rattle.mask_caches.specs.Keeping.{unkept_in}
+use Rattle.mask_caches.specs.declared.passes.CachesPass.{CachesPass}
+use Rattle.mask_caches.specs.declared.warming.Prefetched.{Prefetched}
 use Rattle.mask_keys.specs.Equality.{equal_composites}
 use Rattle.mask_keys.specs.declared.composite_key.CompositeKey.{CompositeKey}
 use Rattle.mask_keys.specs.declared.plans.Draw.{Draw}
@@ -46,7 +52,13 @@ module _ (renderer : RendererView) (pass after : RenderView) (instants : List �
     Unplanned : IsUnplanned → IsColdAt
     Refused : (plans : List (List Draw)) (n : ℕ) → n < length (keys_ahead plans) → IsWarmedTo plans n → IsColdAt
 
+  -- Turns of the shards showed their budgets, and the place is that of the first key whose composed mask can't be kept by them
+  pub record TellsUnkept (plans : List (List Draw)) (unkept : Option ℕ) : Type 0 where
+    pub begun : CachesPass
+    pub looked : EachGives equal_composites composite_meaning renderer.caches.composites.shards pass.caches.composites begun.composites (λ n. [])
+    pub unkept_is : unkept ≡ unkept_in renderer.caches.composites.tag (shown_budgets equal_composites composite_meaning renderer.caches.composites begun.composites) (keys_ahead plans)
+
   -- the number is that of the keys, all of which were warmed
-  abbrev pub IsWarmed : {E : Type 0} → Result ℕ E → Type 0
-  IsWarmed (Ok count) = (plans : List (List Draw)) × (count ≡ length (keys_ahead plans)) × IsWarmedTo plans count
+  abbrev pub IsWarmed : {E : Type 0} → Result Prefetched E → Type 0
+  IsWarmed (Ok w) = (plans : List (List Draw)) × (w.count ≡ length (keys_ahead plans)) × IsWarmedTo plans w.count × TellsUnkept plans w.unkept
   IsWarmed (Err refused) = IsColdAt

@@ -5,8 +5,8 @@ ghost use Rattle.ass_events.specs.Histories.{live};
 ghost use Rattle.ass_num.specs.Limits.{max_text_bytes};
 ghost use Rattle.ass_script.specs.Ranges.{IsScript};
 ghost use Rattle.cache_kinds.specs.Kinds.{composite_meaning, mask_meaning, region_meaning};
-ghost use Rattle.evict_core.specs.Machine.{Limits, max_budget};
-ghost use Rattle.flight_cache.specs.Shards.{EachGives, part};
+ghost use Rattle.evict_core.specs.Machine.{Limits, IsHardLimit, max_budget};
+ghost use Rattle.flight_cache.specs.Shards.{EachGives, IsHardSetInEach, part};
 ghost use Rattle.mask_caches.specs.Adding.{Adds};
 ghost use Rattle.mask_caches.specs.Caches.{all_totals};
 ghost use Rattle.mask_caches.specs.Holding.{all_given_steps};
@@ -16,7 +16,7 @@ ghost use Rattle.text_layout.specs.Fonts.{IsLayoutFontSet};
 ghost use Rattle.track_history.specs.Answers.{read_orders};
 ghost use Rattle.track_history.specs.Calls.{IsFed, IsFlushed, IsTurn, history_of};
 ghost use Rattle.renderer.specs.ShownFrames.{leases_of};
-ghost use Rattle.renderer.specs.Holding.{HoldsFrame, HoldsFrameFewer, HoldsTheSame};
+ghost use Rattle.renderer.specs.Holding.{HoldsFrame, HoldsFrameFewer, HoldsTheSame, IsHomeFrame};
 ghost use Rattle.renderer.specs.Passes.{HoldsNothing, IsFirstPass, IsNewRenderer, IsPassOfRenderer, IsRenderJoined, IsRenderSplit, IsUnchanged};
 
 use crate::Frame;
@@ -26,8 +26,8 @@ use crate::renderer::Renderer;
 use ass_num::{Items, Mem, OutOfMemory};
 use ass_script::Script;
 use bdf_font::FontSet;
-use evict_core::Totals;
-use mask_caches::Caches;
+use evict_core::{HardLimit, Totals};
+use mask_caches::{Caches, HardSet};
 use std::alloc::Global;
 use std::sync::{Arc, Wait};
 use track_history::{Feed, Flushed, Track};
@@ -106,6 +106,7 @@ impl Renderer {
     /// Gives a frame's masks back, the last one first. It takes no memory.
     pub fn release<R: Wait>(&self, rt: &R, pass: RenderPass, frame: Frame) -> RenderPass
         requires pass { IsPassOfRenderer self.now pass }
+        requires own { IsHomeFrame self.now frame }
         requires held { HoldsFrame self.now pass frame }
         ensures pass { IsPassOfRenderer self.now result }
         ensures track { result.track ≡ pass.track }
@@ -126,8 +127,15 @@ impl Renderer {
         RenderPass { track, caches }
     }
 
-    /// A new budget for each of the three caches, and the limit of entries that goes with it.
-    pub fn set_limits<R: Wait>(&self, rt: &R, pass: RenderPass, budget: u64) -> RenderPass
+    /// A new budget for each of the three caches, and the limit of entries that goes with it. What is evicted is freed once others
+    /// may have the turn of its shard, as far as there is memory to keep it so long; else at once.
+    pub fn set_limits<R: Wait>(
+        &self,
+        rt: &R,
+        alloc: Global,
+        pass: RenderPass,
+        budget: u64,
+    ) -> RenderPass
         requires pass { IsPassOfRenderer self.now pass }
         requires budget { budget ≤ max_budget }
         ensures pass { IsPassOfRenderer self.now result }
@@ -141,8 +149,37 @@ impl Renderer {
         ensures holds { HoldsTheSame self.now pass result }
     {
         let RenderPass { track, caches } = pass;
-        let caches = self.caches.set_budgets(rt, caches, budget);
+        let caches = self.caches.set_budgets(rt, alloc, caches, budget);
         RenderPass { track, caches }
+    }
+
+    /// A hard limit of what all values of each of the three caches cost together, with their keys: those that pins hold, those that
+    /// none holds and those that are being made, each of these at what the limit has for one. Or none any more, as at first. What
+    /// would pass it is made apart, and is the caller's own (see [`Frame::owned`]): pictures stay as they are. It evicts nothing, so a
+    /// limit has to be above the budget by four times what is pinned and made at once in one shard. It tells which caches have the
+    /// limit in all shards: a shard whose values pass its part as they are keeps the limit that it had.
+    pub fn set_hard_limit<R: Wait>(
+        &self,
+        rt: &R,
+        pass: RenderPass,
+        hard: Option<HardLimit>,
+    ) -> (RenderPass, HardSet)
+        requires pass { IsPassOfRenderer self.now pass }
+        requires hard { IsHardLimit hard }
+        ensures pass { IsPassOfRenderer self.now result.0 }
+        ensures track { result.0.track ≡ pass.track }
+        ensures regions { IsHardSetInEach equal_regions region_meaning self.now.caches.regions.shards pass.caches.regions hard
+            result.0.caches.regions result.1.regions }
+        ensures masks { IsHardSetInEach equal_masks mask_meaning self.now.caches.masks.shards pass.caches.masks hard
+            result.0.caches.masks result.1.masks }
+        ensures composites { IsHardSetInEach equal_composites composite_meaning self.now.caches.composites.shards pass.caches.composites hard
+            result.0.caches.composites result.1.composites }
+        ensures holds { HoldsTheSame self.now pass result.0 }
+    {
+        let RenderPass { track, caches } = pass;
+        let (caches, set) = self.caches.set_hard_limit(rt, caches, hard);
+        let pass = RenderPass { track, caches };
+        (pass, set)
     }
 
     /// The ReadOrders of the live events, in the order in which they were accepted.

@@ -6,7 +6,7 @@ ghost use Rattle.mask_caches.specs.Caches.{IsPassOf};
 ghost use Rattle.mask_caches.specs.Holding.{all_given_steps};
 ghost use Rattle.mask_keys.specs.Equality.{equal_composites};
 ghost use Rattle.renderer.specs.ShownFrames.{leases_of, leases_of_clip, leases_of_image};
-ghost use Rattle.renderer.specs.Holding.{HoldsLeases, HoldsLeasesFewer};
+ghost use Rattle.renderer.specs.Holding.{HoldsLeases, HoldsLeasesFewer, AreHome};
 
 use crate::{FrameImage, FrameStencil};
 use blend::{Image, Stencil};
@@ -21,6 +21,7 @@ fn release_clip<R: Wait>(
     clip: FrameStencil,
 ) -> CachesPass
     requires pass { IsPassOf caches.now pass }
+    requires own { AreHome caches.now (leases_of_clip clip) }
     requires held { HoldsLeases caches.now pass (leases_of_clip clip) }
     ensures pass { IsPassOf caches.now result }
     ensures composites { Adds equal_composites composite_meaning caches.now.composites pass.composites result.composites
@@ -55,6 +56,7 @@ fn release_image<R: Wait>(
     image: FrameImage,
 ) -> CachesPass
     requires pass { IsPassOf caches.now pass }
+    requires own { AreHome caches.now (leases_of_image image) }
     requires held { HoldsLeases caches.now pass (leases_of_image image) }
     ensures pass { IsPassOf caches.now result }
     ensures composites { Adds equal_composites composite_meaning caches.now.composites pass.composites result.composites
@@ -84,6 +86,7 @@ pub(crate) fn release_images<R: Wait>(
     images: Vec<FrameImage>,
 ) -> CachesPass
     requires pass { IsPassOf caches.now pass }
+    requires own { AreHome caches.now (leases_of images.items) }
     requires held { HoldsLeases caches.now pass (leases_of images.items) }
     ensures pass { IsPassOf caches.now result }
     ensures composites { Adds equal_composites composite_meaning caches.now.composites pass.composites result.composites

@@ -11,7 +11,7 @@ ghost use Rattle.frame_view.specs.FrameViews.{plain_frame};
 ghost use Rattle.picture_plan.specs.Pictures.{AreDraws};
 ghost use Rattle.track_history.specs.Answers.{IsSceneOf};
 ghost use Rattle.renderer.specs.Frames.{frame_with};
-ghost use Rattle.renderer.specs.Holding.{HoldsJustTheFrame};
+ghost use Rattle.renderer.specs.Holding.{HoldsJustTheFrame, IsHomeFrame};
 ghost use Rattle.renderer.specs.OneHistory.{ShowsOneHistory};
 ghost use Rattle.renderer.specs.Passes.{IsPassOfRenderer};
 ghost use Rattle.renderer.specs.Rendering.{AreImagesLent, IsRendered};
@@ -87,7 +87,7 @@ impl Renderer {
     }
 
     /// The images of what a scene shows, with masks through the caches.
-    fn images_of<R: Wait, H: TestHook>(
+    pub(crate) fn images_of<R: Wait, H: TestHook>(
         &self,
         rt: &R,
         alloc: Global,
@@ -127,6 +127,7 @@ impl Renderer {
         ensures history { IfOk result.1 (ShowsOneHistory self.now pass result.0 t size.now) }
         ensures rendered { IsRendered self.now pass result.0 t size.now result.1 }
         ensures holds { HoldsJustTheFrame self.now pass result.0 result.1 }
+        ensures home { IfOk result.1 (IsHomeFrame self.now) }
     {
         let RenderPass { track, caches } = pass;
         let (track, scene) = self.track.look(rt, alloc, track, t);

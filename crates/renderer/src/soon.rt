@@ -4,7 +4,7 @@ ghost use Rattle.ass_events.specs.Histories.{Entry, IsHistory, live};
 ghost use Rattle.ass_num.specs.Limits.{IsFrameSize, IsWithin, max_instant};
 ghost use Rattle.mask_caches.specs.Caches.{IsPassOf};
 ghost use Rattle.track_history.specs.Answers.{IsSceneOf};
-ghost use Rattle.renderer.specs.Holding.{HoldsJustTheFrame};
+ghost use Rattle.renderer.specs.Holding.{HoldsJustTheFrame, IsHomeFrame};
 ghost use Rattle.renderer.specs.OneHistory.{ShowsOneHistory};
 ghost use Rattle.renderer.specs.Passes.{IsPassOfRenderer};
 ghost use Rattle.renderer.specs.Soon.{AreImagesSoon, IsTriedThenRendered};
@@ -73,6 +73,7 @@ impl Renderer {
         ensures history { IfOk result.1 (ShowsOneHistory self.now pass result.0 t size.now) }
         ensures rendered { IsTriedThenRendered self.now pass result.0 t size.now result.1 }
         ensures holds { HoldsJustTheFrame self.now pass result.0 result.1 }
+        ensures home { IfOk result.1 (IsHomeFrame self.now) }
     {
         let RenderPass { track, caches } = pass;
         let (track, scene) = self.track.look(rt, alloc, track, t);

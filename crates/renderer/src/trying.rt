@@ -11,7 +11,7 @@ ghost use Rattle.frame_view.specs.FrameViews.{plain_frame};
 ghost use Rattle.picture_plan.specs.Pictures.{AreDraws};
 ghost use Rattle.track_history.specs.Answers.{IsSceneOf};
 ghost use Rattle.mask_keys.specs.PlanKeys.{plan_keys};
-ghost use Rattle.renderer.specs.Holding.{HoldsJustTheFrame};
+ghost use Rattle.renderer.specs.Holding.{HoldsJustTheFrame, IsHomeFrame};
 ghost use Rattle.renderer.specs.OneHistory.{ShowsOneHistory};
 ghost use Rattle.renderer.specs.Passes.{IsPassOfRenderer};
 ghost use Rattle.renderer.specs.Trying.{AreImagesTried, IsTried, look_refusal, pin_refusal};
@@ -36,7 +36,10 @@ pub enum Again {
     /// The turn of a shard of composed masks is out.
     Cache,
     /// The mask of the key at this place isn't ready. The keys are those of the draws in order, behind each that of its drawn clip.
+    /// A call that tells `Making` says by this that nobody makes the mask.
     NotReady(usize),
+    /// The mask of the key at this place is being made.
+    Making(usize),
     /// The mask of the key at this place has all its pins.
     PinsFull(usize),
 }
@@ -72,6 +75,7 @@ fn of_caches(refusal: PinRefusal) -> TryRefusal
     match refusal {
         PinRefusal::TurnOut => TryRefusal::Again(Again::Cache),
         PinRefusal::NotReady(place) => TryRefusal::Again(Again::NotReady(place)),
+        PinRefusal::Making(place) => TryRefusal::Again(Again::Making(place)),
         PinRefusal::PinsFull(place) => TryRefusal::Again(Again::PinsFull(place)),
         PinRefusal::OutOfMemory => TryRefusal::OutOfMemory,
     }
@@ -153,8 +157,9 @@ impl Renderer {
     }
 
     /// What the track shows at an instant, in milliseconds, in a frame of a size, where all its masks are ready. It makes no mask and
-    /// waits for nobody. A refusal adds no entry to any history and holds nothing.
-    pub fn try_frame(
+    /// waits for nobody. A refusal adds no entry to any history and holds nothing, and tells a mask that is being made from one that
+    /// nobody makes.
+    pub fn try_frame_telling(
         &self,
         alloc: Global,
         pass: RenderPass,
@@ -168,6 +173,7 @@ impl Renderer {
         ensures history { IfOk result.1 (ShowsOneHistory self.now pass result.0 t size.now) }
         ensures tried { IsTried self.now pass result.0 t size.now result.1 }
         ensures holds { HoldsJustTheFrame self.now pass result.0 result.1 }
+        ensures home { IfOk result.1 (IsHomeFrame self.now) }
     {
         let RenderPass { track, caches } = pass;
         let (track, scene) = self.track.try_look(alloc, track, t);

@@ -19,7 +19,7 @@ ghost use Rattle.renderer.specs.Warming.{ArePlansSeen, IsWarmed, keys_ahead};
 use crate::passes::RenderPass;
 use crate::renderer::Renderer;
 use ass_num::{Mem, Size};
-use mask_caches::Ahead;
+use mask_caches::{Ahead, Prefetched};
 use mask_keys::Plan;
 use std::alloc::Global;
 use std::sync::Wait;
@@ -109,8 +109,9 @@ impl Renderer {
     }
 
     /// Makes the masks that frames of a size want at some instants, in milliseconds, as the track shows them now. Answers how many
-    /// different composed masks these are. The pass holds what it held before. It waits as `frame` does. For out of memory it stops at
-    /// a look, or at the mask that is refused.
+    /// different composed masks these are, and which is the first that can't be kept by the budgets of the shards, as their turns
+    /// show them: a frame that wants that mask is had by calls that wait, and by `try_frame` while another frame holds the mask.
+    /// The pass holds what it held before. It waits as `frame` does. For out of memory it stops at a look, or at the mask that is refused.
     pub fn warm<R: Wait, H: TestHook>(
         &self,
         rt: &R,
@@ -119,7 +120,7 @@ impl Renderer {
         instants: &[i64],
         size: &Size,
         hook: &H,
-    ) -> (RenderPass, Mem<usize>)
+    ) -> (RenderPass, Mem<Prefetched>)
         requires pass { IsPassOfRenderer self.now pass }
         requires instants { All (IsWithin max_instant) instants.now }
         requires size { IsFrameSize size.now }
@@ -133,8 +134,17 @@ impl Renderer {
             Ok(ahead) => {
                 let mut ahead = ahead;
                 let left = ahead.left();
-                let (caches, count) = ahead.warm(rt, alloc, &self.caches, caches, left, hook);
-                (RenderPass { track, caches }, count)
+                let (caches, budgets) = self.caches.composite_budgets(rt, caches);
+                let (caches, warmed) = ahead.warm(
+                    rt,
+                    alloc,
+                    &self.caches,
+                    caches,
+                    left,
+                    &budgets,
+                    hook,
+                );
+                (RenderPass { track, caches }, warmed)
             }
             Err(refused) => (RenderPass { track, caches }, Err(refused)),
         }

@@ -8,6 +8,12 @@ paint-requires g c =
     let rendered = rw c.in-Ok.is at c.frame-pass.ensures.rendered in
     subst IsFrameSize (sym rendered.is_frame.size_is) c.requires.size
 
+pub release-requires-clause-own : goal.release-requires-clause-own
+release-requires-clause-own g c = rw c.in-Ok.is at c.frame-pass.ensures.home
+
+pub release-requires-in-Err-paint-clause-own : goal.release-requires-in-Err-paint-clause-own
+release-requires-in-Err-paint-clause-own g c = rw c.in-Ok.is at c.frame-pass.ensures.home
+
 pub release-requires-clause-held : goal.release-requires-clause-held
 release-requires-clause-held g c =
     c.frames_are_given_back.ensures.holds c.args.renderer.now c.args.pass c.frame-pass.result.0 c.in-Ok.frame (rw c.in-Ok.is at c.frame-pass.ensures.holds)

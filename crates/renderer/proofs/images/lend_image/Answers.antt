@@ -6,7 +6,15 @@ use Rattle.renderer.specs.Leasing.{IsLent}
 use Rattle.renderer.proofs.GivenLeases.{gives-one, lease-held}
 use Rattle.renderer.proofs.Leasing.{lent-held, lent-then, unlent-then}
 use Rattle.renderer.proofs.Lending.{image-lent}
+use Rattle.std.proofs.lemmas.List.Elements.{All-head}
+use Rattle.cache_kinds.specs.Kinds.{composite_meaning}
+use Rattle.mask_caches.specs.Leases.{IsHomeLease}
 use Rattle.renderer.proofs.images.lend_image.Goals as goal
+
+pub give_back-requires-clause-own : goal.give_back-requires-clause-own
+give_back-requires-clause-own g c =
+    let e = rw c.in-Ok.is at c.lend_mask-pass.ensures in
+    All-head (IsHomeLease composite_meaning c.args.caches.now.composites) c.in-Ok.lease [] e.lent.homes
 
 pub give_back-requires-clause-held : goal.give_back-requires-clause-held
 give_back-requires-clause-held g c =

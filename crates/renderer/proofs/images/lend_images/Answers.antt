@@ -22,6 +22,9 @@ loop-draw-init g c =
       had = rw (c.reserve.ensures.items, c.new-images.ensures.items) (images-none caches (arc_value caches.fonts).fonts c.args.pass c.as_slice-draw-items.result.now c.requires.pass);
     }
 
+pub release_images-requires-clause-own : goal.release_images-requires-clause-own
+release_images-requires-clause-own g c = c.loop-draw.invariant.had.lent.homes
+
 pub returns-in-Err-clause-refused : goal.returns-in-Err-clause-refused
 returns-in-Err-clause-refused g c =
     let caches = c.args.caches.now in let draws = c.as_slice-draw-items.result.now in let i = c.loop-draw.draw-index in

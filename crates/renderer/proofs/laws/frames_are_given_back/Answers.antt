@@ -4,7 +4,7 @@ use Rattle.renderer.specs.ShownFrames.{leases_of}
 use Rattle.renderer.proofs.Held.{leases-given, leases-held, nothing-again}
 use Rattle.renderer.proofs.KnownShards.{shards-legal}
 use Rattle.renderer.proofs.laws.frames_are_given_back.Goals as goal
-use Rattle.mask_caches.proofs.Warmed.{before-then}
+use Rattle.mask_caches.proofs.KeysWarmed.{before-then}
 
 pub returns-clause-holds : goal.returns-clause-holds
 returns-clause-holds c = λ renderer pass after frame f. leases-held renderer.caches pass.caches after.caches (leases_of frame.images) f

@@ -1,6 +1,12 @@
 use Rattle.std.proofs.Common.{[], ◌∷◌}
 use Rattle.renderer.proofs.GivenLeases.{gives-fewer, gives-none, gives-one, lease-held}
+use Rattle.cache_kinds.specs.Kinds.{composite_meaning}
+use Rattle.mask_caches.specs.Leases.{IsHomeLease}
+use Rattle.std.proofs.lemmas.List.Elements.{All-head}
 use Rattle.renderer.proofs.releasing.release_clip.Goals as goal
+
+pub give_back-requires-clause-own : goal.give_back-requires-clause-own
+give_back-requires-clause-own g c = All-head (IsHomeLease composite_meaning c.args.caches.now.composites) c.in-Drawn.mask [] (rw c.in-Drawn.is at c.requires.own)
 
 pub give_back-requires-clause-held : goal.give_back-requires-clause-held
 give_back-requires-clause-held g c = lease-held c.args.caches.now c.args.pass c.in-Drawn.mask (rw c.in-Drawn.is at c.requires.held)

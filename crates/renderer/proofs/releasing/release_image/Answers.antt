@@ -1,7 +1,16 @@
 use Rattle.std.proofs.Common.{[], ◌∷◌}
 use Rattle.renderer.specs.ShownFrames.{leases_of_clip}
 use Rattle.renderer.proofs.GivenLeases.{GivesLeases, gives-fewer, gives-one, gives-then, lease-held, leases-first, leases-last}
+use Rattle.cache_kinds.specs.Kinds.{composite_meaning}
+use Rattle.mask_caches.specs.Leases.{IsHomeLease}
+use Rattle.std.proofs.lemmas.List.Elements.{All-head, All-tail}
 use Rattle.renderer.proofs.releasing.release_image.Goals as goal
+
+pub release_clip-pass-requires-clause-own : goal.release_clip-pass-requires-clause-own
+release_clip-pass-requires-clause-own g c = All-tail (IsHomeLease composite_meaning c.args.caches.now.composites) c.args.image.mask (leases_of_clip c.args.image.stencil) c.requires.own
+
+pub give_back-requires-clause-own : goal.give_back-requires-clause-own
+give_back-requires-clause-own g c = All-head (IsHomeLease composite_meaning c.args.caches.now.composites) c.args.image.mask (leases_of_clip c.args.image.stencil) c.requires.own
 
 pub release_clip-pass-requires-clause-held : goal.release_clip-pass-requires-clause-held
 release_clip-pass-requires-clause-held g c = leases-last c.args.caches.now c.args.pass (c.args.image.mask ∷ []) (leases_of_clip c.args.image.stencil) c.requires.held

@@ -15,4 +15,4 @@ returns-in-Ok g c =
     let had = c.images_of-caches.ensures history (scene-itself history c.args.t c.in-Ok.scene scene) in
     let f = frame-given renderer c.pass.inside.track later old new c.args.t size c.in-Ok.scene images of c.look-track.ensures.turn scene
     (subst (λ (t : ℤ). AreImagesLent renderer old new (live history) t size images) scene.instant had) in
-    rw (← c.pass.view_is, c.frame_with-frame.ensures) (record { pass = f.of; history = f.history; rendered = f.came; holds = f.holds })
+    rw (← c.pass.view_is, c.frame_with-frame.ensures) (record { pass = f.of; history = f.history; rendered = f.came; holds = f.holds; home = f.home })

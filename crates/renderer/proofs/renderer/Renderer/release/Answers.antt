@@ -1,6 +1,11 @@
 use Rattle.std.proofs.Common.{ap, refl, ◌∙◌}
 use Rattle.renderer.proofs.renderer.Renderer.release.Goals as goal
 
+pub release_images-caches-requires-clause-own : goal.release_images-caches-requires-clause-own
+release_images-caches-requires-clause-own g c =
+    let own = rw (← c.self.view_is) at c.requires.own in
+    rw c.into_vec.ensures own
+
 pub release_images-caches-requires-clause-held : goal.release_images-caches-requires-clause-held
 release_images-caches-requires-clause-held g c =
     let held = rw (← c.self.view_is, ← c.pass.view_is) at c.requires.held in

@@ -19,7 +19,7 @@ returns-in-Ok g c =
     let had = c.images_soon-caches.ensures history (scene-itself history c.args.t c.in-Ok.scene scene) in
     let f = given-soon renderer c.pass.inside.track later old new c.args.t size of c.in-Ok.scene images c.look-track.ensures.turn scene
     (subst (λ (t : ℤ). AreImagesSoon renderer old new (live history) t size images) scene.instant had) in
-    rw (← c.pass.view_is, c.frame_with-frame.ensures) (record { pass = f.of; history = f.history; rendered = f.came; holds = f.holds })
+    rw (← c.pass.view_is, c.frame_with-frame.ensures) (record { pass = f.of; history = f.history; rendered = f.came; holds = f.holds; home = f.home })
 
 pub returns-in-Err : goal.returns-in-Err
 returns-in-Err g c =
@@ -33,4 +33,5 @@ returns-in-Err g c =
       history = tt;
       rendered = subst (λ (v : RenderView). IsTriedThenRendered renderer v (pass_of later caches) c.args.t size (Err wanting)) c.pass.view_is f.rendered;
       holds = subst (λ (v : RenderView). HoldsTheSame renderer v (pass_of later caches)) c.pass.view_is f.holds;
+      home = tt;
     }
