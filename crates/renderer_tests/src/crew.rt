@@ -1,7 +1,7 @@
 //! Eight threads, each of which feeds and draws with a pass of its own.
 
 ghost use Rattle.std.specs.Prelude.{IfSome};
-ghost use Rattle.renderer_tests.specs.Passes.{AreFourIdle, IsFirst, IsIdle, IsPairIdle};
+ghost use Rattle.renderer_tests.specs.Passes.{AreFourIdle, IsFirstOfRenderer, IsIdle, IsPairIdle};
 
 use crate::calls::{Shown, drawn, feed_letter};
 use crate::compared::is_as_alone;
@@ -197,9 +197,9 @@ pub fn work_by_eight<R: Threads + Wait + Sync, H: TestHook + Sync>(
 }
 
 /// A thread of this number, with a pass of its own.
-fn hire(renderer: &Renderer, first: RenderPass, number: u32) -> (RenderPass, Drawer)
-    requires { IsFirst renderer.now first }
-    ensures first { IsFirst renderer.now result.0 }
+pub fn hire(renderer: &Renderer, first: RenderPass, number: u32) -> (RenderPass, Drawer)
+    requires { IsFirstOfRenderer renderer.now first }
+    ensures first { IsFirstOfRenderer renderer.now result.0 }
     ensures idle { IfSome result.1.pass (IsIdle renderer.now) }
 {
     let (first, pass) = lend(renderer, first);
@@ -213,8 +213,8 @@ fn hire(renderer: &Renderer, first: RenderPass, number: u32) -> (RenderPass, Dra
 
 /// Two threads, from this number on.
 fn hire_pair(renderer: &Renderer, first: RenderPass, number: u32) -> (RenderPass, Pair)
-    requires { IsFirst renderer.now first }
-    ensures first { IsFirst renderer.now result.0 }
+    requires { IsFirstOfRenderer renderer.now first }
+    ensures first { IsFirstOfRenderer renderer.now result.0 }
     ensures idle { IsPairIdle renderer.now result.1 }
 {
     let (first, left) = hire(renderer, first, number);
@@ -224,8 +224,8 @@ fn hire_pair(renderer: &Renderer, first: RenderPass, number: u32) -> (RenderPass
 
 /// Four threads, from this number on.
 pub fn hire_four(renderer: &Renderer, first: RenderPass, number: u32) -> (RenderPass, Four)
-    requires { IsFirst renderer.now first }
-    ensures first { IsFirst renderer.now result.0 }
+    requires { IsFirstOfRenderer renderer.now first }
+    ensures first { IsFirstOfRenderer renderer.now result.0 }
     ensures idle { AreFourIdle renderer.now result.1 }
 {
     let (first, left) = hire_pair(renderer, first, number);
@@ -234,10 +234,10 @@ pub fn hire_four(renderer: &Renderer, first: RenderPass, number: u32) -> (Render
 }
 
 /// Takes a thread's pass in again, and tells how many of its frames were right.
-fn dismiss(renderer: &Renderer, first: RenderPass, drawer: Drawer) -> (RenderPass, u32)
-    requires first { IsFirst renderer.now first }
+pub fn dismiss(renderer: &Renderer, first: RenderPass, drawer: Drawer) -> (RenderPass, u32)
+    requires first { IsFirstOfRenderer renderer.now first }
     requires idle { IfSome drawer.pass (IsIdle renderer.now) }
-    ensures { IsFirst renderer.now result.0 }
+    ensures { IsFirstOfRenderer renderer.now result.0 }
 {
     let Drawer {
         pass,
@@ -249,9 +249,9 @@ fn dismiss(renderer: &Renderer, first: RenderPass, drawer: Drawer) -> (RenderPas
 
 /// The same of two threads.
 fn dismiss_pair(renderer: &Renderer, first: RenderPass, pair: Pair) -> (RenderPass, u32)
-    requires first { IsFirst renderer.now first }
+    requires first { IsFirstOfRenderer renderer.now first }
     requires idle { IsPairIdle renderer.now pair }
-    ensures { IsFirst renderer.now result.0 }
+    ensures { IsFirstOfRenderer renderer.now result.0 }
 {
     let Pair { left, right } = pair;
     let (first, one) = dismiss(renderer, first, left);
@@ -261,9 +261,9 @@ fn dismiss_pair(renderer: &Renderer, first: RenderPass, pair: Pair) -> (RenderPa
 
 /// The same of four threads.
 pub fn dismiss_four(renderer: &Renderer, first: RenderPass, four: Four) -> (RenderPass, u32)
-    requires first { IsFirst renderer.now first }
+    requires first { IsFirstOfRenderer renderer.now first }
     requires idle { AreFourIdle renderer.now four }
-    ensures { IsFirst renderer.now result.0 }
+    ensures { IsFirstOfRenderer renderer.now result.0 }
 {
     let Four { left, right } = four;
     let (first, one) = dismiss_pair(renderer, first, left);

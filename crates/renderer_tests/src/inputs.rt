@@ -6,7 +6,7 @@ ghost use Rattle.ass_script.specs.Ranges.{IsScript};
 ghost use Rattle.bdf_font.specs.Ranges.{IsFont};
 ghost use Rattle.evict_core.specs.Machine.{max_budget};
 ghost use Rattle.text_layout.specs.Fonts.{IsLayoutFontSet};
-ghost use Rattle.renderer_tests.specs.Passes.{IsFirst};
+ghost use Rattle.renderer_tests.specs.Passes.{IsFirstOfRenderer};
 
 use ass_io::MAX_FILE_BYTES;
 use ass_num::{Items, Size};
@@ -73,7 +73,7 @@ fn letters(alloc: Global) -> Option<Arc<FontSet>>
 /// A renderer of a script with the font, and its first pass.
 pub fn opened(alloc: Global, text: &[u8], budget: u64) -> Option<(Renderer, RenderPass)>
     requires { budget ≤ max_budget }
-    ensures { IfSome result (λ r. IsFirst r.0 r.1) }
+    ensures { IfSome result (λ r. IsFirstOfRenderer r.0 r.1) }
 {
     let Some(script) = script_of(alloc, text) else {
         return None;
@@ -89,6 +89,12 @@ pub fn letter_chunk(alloc: Global, order: u32) -> Result<String, AllocError> {
     let x = 1 + order % 8 * 6;
     let y = 1 + order / 8 % 4 * 8;
     format!(in alloc; "{order},0,,,0,0,0,,{{\\an7\\pos({x},{y})\\fs8\\bord0\\shad0}}a")
+}
+
+/// That of a letter that is stretched by the number, so that each number has a mask of its own.
+pub fn stretched_chunk(alloc: Global, order: u32) -> Result<String, AllocError> {
+    let scale = 100 + order % 1000;
+    format!(in alloc; "{order},0,,,0,0,0,,{{\\an7\\pos(1,1)\\fs8\\fscx{scale}\\bord0\\shad0}}a")
 }
 
 /// The rows of a picture that is so wide, each behind a bar: a dot for each black pixel.

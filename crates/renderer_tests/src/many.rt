@@ -2,10 +2,11 @@
 
 ghost use Rattle.std.specs.Prelude.{◌≤◌};
 ghost use Rattle.evict_core.specs.Machine.{max_budget};
-ghost use Rattle.renderer_tests.specs.Passes.{IsFirst, IsIdle};
+ghost use Rattle.renderer_tests.specs.Passes.{IsFirstOfRenderer, IsIdle};
 
+use crate::beside::work_and_try;
 use crate::calls::counted;
-use crate::crew::{dismiss_four, hire_four, work_by_eight};
+use crate::crew::{dismiss, dismiss_four, hire, hire_four};
 use crate::gates::Gate;
 use crate::inputs::{WIDE, opened};
 use crate::lending::{lend, take_back};
@@ -16,20 +17,30 @@ use std::alloc::Global;
 use std::sync::Wait;
 use std::thread::Threads;
 
-/// Feeds and draws on eight threads at once. Answers how many of the 32 frames were right.
-fn drawn_by_eight<R: Threads + Wait + Sync>(
+/// Feeds and draws on eight threads at once, and tries on one more. Answers how many of the 32 frames were right.
+fn drawn_by_eight<R: Threads + Wait + Sync + Print>(
     rt: &R,
     alloc: Global,
     renderer: &Renderer,
     first: RenderPass,
     gate: &Gate,
 ) -> (RenderPass, u32)
-    requires { IsFirst renderer.now first }
-    ensures { IsFirst renderer.now result.0 }
+    requires { IsFirstOfRenderer renderer.now first }
+    ensures { IsFirstOfRenderer renderer.now result.0 }
 {
     let (first, mut left) = hire_four(renderer, first, 0);
     let (first, mut right) = hire_four(renderer, first, 4);
-    work_by_eight(rt, alloc, renderer, &mut left, &mut right, gate);
+    let (first, mut drawer) = hire(renderer, first, 8);
+    work_and_try(
+        rt,
+        alloc,
+        renderer,
+        &mut left,
+        &mut right,
+        &mut drawer,
+        gate,
+    );
+    let (first, _) = dismiss(renderer, first, drawer);
     let (first, one) = dismiss_four(renderer, first, left);
     let (first, other) = dismiss_four(renderer, first, right);
     (first, one.wrapping_add(other))
@@ -59,8 +70,8 @@ fn told_events<R: Wait + Print>(
     renderer: &Renderer,
     first: RenderPass,
 ) -> (RenderPass, Option<[Totals; 3]>)
-    requires { IsFirst renderer.now first }
-    ensures { IsFirst renderer.now result.0 }
+    requires { IsFirstOfRenderer renderer.now first }
+    ensures { IsFirstOfRenderer renderer.now result.0 }
 {
     let (first, lent) = lend(renderer, first);
     let Some(pass) = lent else {
@@ -89,7 +100,11 @@ fn totals_of_eight<R: Threads + Wait + Sync + Print>(
         "frames of eight threads as one makes them alone",
         &right,
     );
-    tell(rt, "a maker was held until all had fed", &gate.has_held());
+    tell(
+        rt,
+        "a maker was held until all had fed and one had tried",
+        &gate.has_held(),
+    );
     let (first, totals) = told_events(rt, alloc, &renderer, first);
     renderer.close(first);
     totals
@@ -108,7 +123,7 @@ fn tell_entries<R: Print>(rt: &R, totals: &[Totals; 3]) {
     tell(rt, "entries", &entries);
 }
 
-/// A maker is held until each thread has fed, so that the others ask for what it makes. Each value is made once.
+/// A maker is held until each thread has fed and one more has tried, so that the others ask for what it makes. Each value is made once.
 pub fn run_with_masks_kept<R: Threads + Wait + Sync + Print>(rt: &R, alloc: Global) {
     let gate = Gate::new(8);
     let totals = totals_of_eight(rt, alloc, 1_000_000, &gate);

@@ -7,7 +7,8 @@ ghost use Rattle.renderer.specs.Passes.{IsPassOfRenderer};
 ghost use Rattle.renderer_tests.specs.Passes.{HoldsFrameAlone, IsIdle};
 
 use crate::calls::{
-    Shown, counted, drawn, feed_letter, given_back, held_frame, limited, tried, warmed,
+    Shown, TryCall, counted, drawn, drawn_from, feed_crowd, feed_letter, feed_letter_within,
+    given_back, hard_limited, held_frame, limited, tried, warmed,
 };
 use crate::inputs::{SMALL_FRAME, signs_of};
 use ass_num::Mem;
@@ -65,6 +66,37 @@ pub fn feed<R: Wait + Print>(
     after
 }
 
+/// Offers the event of a number within three tries.
+pub fn feed_within<R: Print>(
+    rt: &R,
+    alloc: Global,
+    renderer: &Renderer,
+    pass: RenderPass,
+    order: u32,
+) -> RenderPass
+    requires { IsIdle renderer.now pass }
+    ensures { IsIdle renderer.now result }
+{
+    let (after, answer) = feed_letter_within(alloc, renderer, pass, order);
+    tell(rt, "feed_within", &answer);
+    after
+}
+
+/// Offers so many events, each with a mask of its own.
+pub fn crowd<R: Wait + Print>(
+    rt: &R,
+    alloc: Global,
+    renderer: &Renderer,
+    pass: RenderPass,
+    count: u32,
+) -> RenderPass
+    requires { IsIdle renderer.now pass }
+    ensures { IsIdle renderer.now result }
+{
+    tell(rt, "crowd", &count);
+    feed_crowd(rt, alloc, renderer, pass, count)
+}
+
 /// Drops all events.
 pub fn flush<R: Wait + Print>(
     rt: &R,
@@ -111,6 +143,7 @@ pub fn totals<R: Wait + Print>(rt: &R, renderer: &Renderer, pass: RenderPass) ->
 /// A new budget, and the totals then.
 pub fn set_limits<R: Wait + Print>(
     rt: &R,
+    alloc: Global,
     renderer: &Renderer,
     pass: RenderPass,
     budget: u32,
@@ -118,12 +151,27 @@ pub fn set_limits<R: Wait + Print>(
     requires { IsIdle renderer.now pass }
     ensures { IsIdle renderer.now result }
 {
-    let after = limited(rt, renderer, pass, u64::from(budget));
+    let after = limited(rt, alloc, renderer, pass, u64::from(budget));
     tell(rt, "set_limits", &budget);
     totals(rt, renderer, after)
 }
 
-/// Makes the mask.
+/// A hard limit, and which caches have it.
+pub fn hard_limit<R: Wait + Print>(
+    rt: &R,
+    renderer: &Renderer,
+    pass: RenderPass,
+    cost: u32,
+) -> RenderPass
+    requires { IsIdle renderer.now pass }
+    ensures { IsIdle renderer.now result }
+{
+    let (after, set) = hard_limited(rt, renderer, pass, u64::from(cost));
+    tell(rt, "set_hard_limit", &set);
+    after
+}
+
+/// Makes the mask, and tells whether it can be kept.
 pub fn warm<R: Wait + Print>(
     rt: &R,
     alloc: Global,
@@ -133,8 +181,8 @@ pub fn warm<R: Wait + Print>(
     requires { IsIdle renderer.now pass }
     ensures { IsIdle renderer.now result }
 {
-    let (after, count) = warmed(rt, alloc, renderer, pass, &SMALL_FRAME, &NoHook);
-    tell(rt, "warm", &count);
+    let (after, made) = warmed(rt, alloc, renderer, pass, &SMALL_FRAME, &NoHook);
+    tell(rt, "warm", &made);
     after
 }
 
@@ -156,20 +204,41 @@ pub fn frame<R: Wait + Print>(
     after
 }
 
-/// A frame that is tried for; so it is with it.
-pub fn try_frame<R: Wait + Print>(
+/// A frame that a call of this name tries for; so it is with it.
+pub fn try_call<R: Wait + Print>(
     rt: &R,
     alloc: Global,
     renderer: &Renderer,
     pass: RenderPass,
+    name: &str,
+    call: TryCall,
 ) -> RenderPass
     requires { IsIdle renderer.now pass }
     ensures { IsIdle renderer.now result }
 {
-    let (after, shown) = tried(rt, alloc, renderer, pass, &SMALL_FRAME);
+    let (after, shown) = tried(rt, alloc, renderer, pass, &SMALL_FRAME, call);
     match shown {
-        Ok(shown) => tell_shown(rt, alloc, "try_frame", &shown),
-        Err(refusal) => tell(rt, "try_frame", &refusal),
+        Ok(shown) => tell_shown(rt, alloc, name, &shown),
+        Err(refusal) => tell(rt, name, &refusal),
+    }
+    after
+}
+
+/// A frame of at least so many entries; so it is with it.
+pub fn frame_from<R: Wait + Print>(
+    rt: &R,
+    alloc: Global,
+    renderer: &Renderer,
+    pass: RenderPass,
+    least: usize,
+) -> RenderPass
+    requires { IsIdle renderer.now pass }
+    ensures { IsIdle renderer.now result }
+{
+    let (after, shown) = drawn_from(rt, alloc, renderer, pass, least, &SMALL_FRAME, &NoHook);
+    match shown {
+        Ok(shown) => tell_shown(rt, alloc, "frame_from", &shown),
+        Err(refusal) => tell(rt, "frame_from", &refusal),
     }
     after
 }
@@ -202,6 +271,7 @@ fn tell_around<R: Wait + Print>(
 {
     let (held, totals) = counted_beside(rt, renderer, pass, &frame);
     tell_pins(rt, "pinned while it is held", &totals);
+    tell(rt, "owns masks", &(frame.owned() > 0));
     let back = given_back(rt, renderer, held, frame);
     let (after, left) = counted(rt, renderer, back);
     tell_pins(rt, "pinned once it was given back", &left);

@@ -4,7 +4,7 @@ ghost use Rattle.evict_core.specs.Machine.{max_cost};
 
 use crate::rows::{add_other, call_of, name_of, numbers, shown};
 use ass_num::Mem;
-use evict_core::{Ask, Entries};
+use evict_core::{Ask, Entries, Freed, HardLimit};
 use std::alloc::Global;
 use std::sync::Arc;
 use std::test::Fail;
@@ -33,7 +33,7 @@ fn reply_of(answer: Ask<u32>) -> Reply {
 
 fn ask(entries: &mut Entries<u32, u32>, key: u32) -> Reply {
     match entries.ask(&key) {
-        Ask::Claimable => match entries.claim(key, 7) {
+        Ask::Claimable => match entries.claim(key, 7, &mut Freed::few()) {
             Ok(()) => Reply::Claim,
             Err(_) => Reply::OutOfMemory,
         },
@@ -60,7 +60,7 @@ fn fill(alloc: Global, entries: &mut Entries<u32, u32>, key: u32, cost: u64) -> 
 fn fail(entries: &mut Entries<u32, u32>, key: u32) -> Reply {
     match entries.maker_of(&key) {
         Some(_) => {
-            entries.fail(&key);
+            entries.fail(&key, &mut Freed::few());
             Reply::Done
         }
         None => Reply::Refused,
@@ -84,7 +84,7 @@ fn unpin(entries: &mut Entries<u32, u32>, key: u32) -> Reply {
     match entries.pins_of(&key) {
         Some(pins) => {
             if pins > 0 {
-                entries.unpin(&key);
+                entries.unpin(&key, &mut Freed::few());
                 return Reply::Done;
             }
             Reply::Refused
@@ -108,7 +108,8 @@ fn make(
         "pin" => pin(entries, key),
         "unpin" => unpin(entries, key),
         _ => {
-            entries.set_limits(key.clamp(1, 65_536), number.min(1 << 40));
+            let limit = key.clamp(1, 65_536);
+            entries.set_limits(limit, number.min(1 << 40), &mut Freed::few());
             Reply::Done
         }
     }
@@ -203,5 +204,41 @@ fn rows_of_calls(rt: HostRuntime) -> Result<(), Fail> {
     let evictions = entries.totals().counts.evictions;
     let last = (evictions, entries.pins_of(&3), value_of(&entries, 3));
     assert_eq!(rt; last, (6, Some(1), Some(10_003)));
+    Ok(())
+}
+
+fn is_claim(reply: Reply) -> bool {
+    match reply {
+        Reply::Claim => true,
+        _ => false,
+    }
+}
+
+#[test]
+fn hard_limit(rt: HostRuntime) -> Result<(), Fail> {
+    let mut entries: Entries<u32, u32> = Entries::open(rt.alloc(), 8, 100)?;
+    let is_set = entries.set_hard_limit(Some(HardLimit {
+        cost: 100,
+        making: 30,
+    }));
+    let claimed = (
+        is_claim(ask(&mut entries, 1)),
+        is_claim(ask(&mut entries, 2)),
+        is_claim(ask(&mut entries, 3)),
+        is_claim(ask(&mut entries, 4)),
+    );
+    assert_eq!(rt; (is_set, claimed), (true, (true, true, true, false)));
+    assert_eq!(rt; (entries.can_fill(40), entries.can_fill(41)), (true, false));
+    let _filled = fill(rt.alloc(), &mut entries, 1, 40);
+    let lower = Some(HardLimit {
+        cost: 99,
+        making: 30,
+    });
+    assert_eq!(rt; entries.set_hard_limit(lower), false);
+    let _failed = fail(&mut entries, 2);
+    assert_eq!(rt; entries.set_hard_limit(lower), true);
+    assert_eq!(rt; is_claim(ask(&mut entries, 4)), false);
+    assert_eq!(rt; entries.set_hard_limit(None), true);
+    assert_eq!(rt; is_claim(ask(&mut entries, 4)), true);
     Ok(())
 }

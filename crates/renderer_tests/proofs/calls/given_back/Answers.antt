@@ -1,5 +1,8 @@
 use Rattle.renderer_tests.proofs.calls.given_back.Goals as goal
 
+pub release-after-requires-clause-own : goal.release-after-requires-clause-own
+release-after-requires-clause-own g c = c.requires.held.home
+
 pub release-after-requires-clause-held : goal.release-after-requires-clause-held
 release-after-requires-clause-held g c =
     let held = c.requires.held in c.frames_are_given_back.ensures.holds c.args.renderer.now held.begun c.args.pass c.args.frame held.more

@@ -2,7 +2,7 @@ use Rattle.renderer_tests.proofs.Given.{frame_alone, frame_fits, nothing_again}
 use Rattle.renderer_tests.proofs.calls.held_frame.Goals as goal
 
 pub returns-clause-held : goal.returns-clause-held
-returns-clause-held g c = frame_alone c.args.renderer.now c.args.pass c.frame-after.result.0 c.frame-after.result.1 c.requires.idle.1 c.frame-after.ensures.holds
+returns-clause-held g c = frame_alone c.args.renderer.now c.args.pass c.frame-after.result.0 c.frame-after.result.1 c.requires.idle.1 c.frame-after.ensures.holds c.frame-after.ensures.home
 
 pub returns-clause-size : goal.returns-clause-size
 returns-clause-size g c = frame_fits c.args.renderer.now c.args.pass c.frame-after.result.0 _ _ c.frame-after.result.1 c.requires.size c.frame-after.ensures.rendered

@@ -1,11 +1,11 @@
-use Rattle.renderer_tests.proofs.Given.{frame_alone, nothing_again, tried_fits}
+use Rattle.renderer_tests.proofs.Given.{frame_alone, nothing_again, untold_fits}
 use Rattle.renderer_tests.proofs.calls.tried_frame.Goals as goal
 
 pub returns-clause-held : goal.returns-clause-held
-returns-clause-held c = frame_alone c.args.renderer.now c.args.pass c.try_frame-after.result.0 c.try_frame-after.result.1 c.requires.idle.1 c.try_frame-after.ensures.holds
+returns-clause-held c = frame_alone c.args.renderer.now c.args.pass c.try_frame-after.result.0 c.try_frame-after.result.1 c.requires.idle.1 c.try_frame-after.ensures.holds c.try_frame-after.ensures.home
 
 pub returns-clause-size : goal.returns-clause-size
-returns-clause-size c = tried_fits c.args.renderer.now c.args.pass c.try_frame-after.result.0 _ _ c.try_frame-after.result.1 c.requires.size c.try_frame-after.ensures.tried
+returns-clause-size c = untold_fits c.args.renderer.now c.args.pass c.try_frame-after.result.0 _ _ c.try_frame-after.result.1 c.requires.size c.try_frame-after.ensures.tried
 
 pub returns-clause-none : goal.returns-clause-none
 returns-clause-none c =
