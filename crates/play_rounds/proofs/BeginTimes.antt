@@ -12,7 +12,7 @@ use Rattle.play_model.specs.Plays.{PlayView, history_of_times}
 use Rattle.play_model.specs.Times.{history_before}
 use Rattle.play_model.proofs.JoinedPasses.{nil_of}
 use Rattle.play_model.proofs.MoreTimes.{flushes_many, times_closed}
-use Rattle.play_rounds.specs.Passes.{IsHome}
+use Rattle.play_rounds.specs.Passes.{IsAllJoined}
 use Rattle.play_rounds.proofs.Turns.{found_same}
 use Rattle.renderer.specs.Passes.{IsPassOfRenderer, RenderView, RendererView}
 use Rattle.track_history.specs.Answers.{extended, flushed_entry}
@@ -33,7 +33,7 @@ not_most n few = grind (arith, nat_tests)
 
 -- ---- turns of the first pass, when all others are joined
 
-module _ (renderer : RendererView) (first after : RenderView) (home : IsHome renderer first) (is_of : IsPassOfRenderer renderer after) where
+module _ (renderer : RendererView) (first after : RenderView) (home : IsAllJoined renderer first) (is_of : IsPassOfRenderer renderer after) where
   -- a turn without an entry leaves the history
   pub same_history : IsTurn first.track after.track None → history_of after.track.seen ≡ history_of first.track.seen
   same_history turn = ap (λ (h : History TrackEntry). history_of h) turn.turn.seen

@@ -25,7 +25,7 @@ use Rattle.play_workers.specs.declared.worker.Outcome.TheVariants.{Idle, Fed, Sh
 use Rattle.play_workers.specs.declared.worker.Role.{Role}
 use Rattle.play_workers.specs.declared.worker.Role.TheVariants.{Feeder, Painter, Warmer}
 use Rattle.play_workers.specs.declared.worker.Worker.{Worker}
-use Rattle.play_rounds.specs.Passes.{IsHome}
+use Rattle.play_rounds.specs.Passes.{IsAllJoined}
 use Rattle.play_rounds.specs.Rounds.{IsRound, worker_roles}
 use Rattle.play_rounds.proofs.Told.{shown_begins, shown_ends, told_begun, told_given, told_later, told_mixed, told_new}
 use Rattle.play_rounds.proofs.WholeRounds.{gave, nobody}
@@ -72,7 +72,7 @@ AreFedTwice_later before after more again batch given repeated two = record {
 module _ (stage : PlayStage) (round : ℕ) (first : RenderView) (workers : List Worker) (after : RenderView) where
   -- a round in which memory was never wanting
   pub record IsFineRound (shift : Shift) (old fresh : List Entry) : Type 0 where
-    pub home : IsHome stage.renderer first
+    pub home : IsAllJoined stage.renderer first
     pub one : IsRound stage round first workers after
     pub is_stage : IsPlayStage stage
     pub fine : (i : ℕ) (d : Worker) → i < length workers → IsFine (slice_index_or workers i d).outcome

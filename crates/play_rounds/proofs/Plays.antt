@@ -14,7 +14,7 @@ use Rattle.play_workers.specs.Stages.{IsPlayStage, play_on}
 use Rattle.play_workers.specs.declared.stage.PlayStage.{PlayStage}
 use Rattle.play_workers.specs.declared.worker.Role.{Role}
 use Rattle.play_workers.specs.declared.worker.Worker.{Worker}
-use Rattle.play_rounds.specs.Passes.{IsHome}
+use Rattle.play_rounds.specs.Passes.{IsAllJoined}
 use Rattle.play_rounds.specs.Rounds.{IsRound, worker_roles}
 use Rattle.ass_io.specs.Sinks.{SinkState}
 use Rattle.play_model.specs.Images.{IsShownImage, ShownImage, shown_pieces}
@@ -74,7 +74,7 @@ stopped_in play old q shift round history repeated images next count played =
 -- ---- one round
 
 module _ (s s' : SinkState) (stage : PlayStage) (round : ℕ) (first : RenderView) (workers : List Worker) (after : RenderView) (roles : List Role)
-    (is_stage : IsPlayStage stage) (home : IsHome stage.renderer first) (one : IsRound stage round first workers after) (same : worker_roles workers ≡ roles) where
+    (is_stage : IsPlayStage stage) (home : IsAllJoined stage.renderer first) (one : IsRound stage round first workers after) (same : worker_roles workers ≡ roles) where
   abbrev pieces : List (List ℕ)
   pieces = flat_map (λ (w : Worker). images_by w.outcome) workers
 

@@ -30,7 +30,7 @@ use Rattle.play_workers.specs.declared.worker.Role.{Role}
 use Rattle.play_workers.specs.declared.worker.Role.TheVariants.{Feeder, Painter, Warmer}
 use Rattle.play_workers.specs.declared.worker.Worker.{Worker}
 use Rattle.play_workers.proofs.Paintings.{IsImageBetween, image_between}
-use Rattle.play_rounds.specs.Passes.{IsHome}
+use Rattle.play_rounds.specs.Passes.{IsAllJoined}
 use Rattle.play_rounds.specs.Rounds.{IsRound, worker_roles}
 use Rattle.play_rounds.proofs.Told.{shown_ends, told_begun}
 use Rattle.play_rounds.proofs.WholeRounds.{all_at, nobody}
@@ -211,7 +211,7 @@ AllFine workers = (i : ℕ) (d : Worker) → i < length workers → IsFine (slic
 
 -- A round more of a shift: images of what the workers painted, which need no more composed masks than the workers' passes asked for.
 pub shift_on : (stage : PlayStage) (round : ℕ) (first : RenderView) (workers : List Worker) (after : RenderView) (old : List Entry) (q : ℕ) (shift : Shift) (repeated : ℕ) (images : List ShownImage)
-    → IsPlayStage stage → IsHome stage.renderer first → (one : IsRound stage round first workers after) → AllFine workers → worker_roles workers ≡ crew_of stage.job shift
+    → IsPlayStage stage → IsAllJoined stage.renderer first → (one : IsRound stage round first workers after) → AllFine workers → worker_roles workers ≡ crew_of stage.job shift
     → IsShiftPlayed (play_on stage) old q shift round (history_of first.track.seen) repeated images
     → (next : List ShownImage) × (shown_pieces next ≡ flat_map (λ (w : Worker). images_by w.outcome) workers) × (all_masks next ≤ sum_below (length workers) (λ i. masks_asked stage.renderer (one.passes i)))
     × IsShiftPlayed (play_on stage) old q shift (round + 1) (history_of after.track.seen) (repeated + sum_by (λ (w : Worker). told_repeats w.outcome) workers) (images ++ next)

@@ -11,7 +11,7 @@ use Rattle.track_history.specs.declared.answers.TrackEntry.{TrackEntry}
 use Rattle.play_model.specs.Interleavings.{IsInterleaving, all_entries}
 use Rattle.play_workers.specs.declared.stage.PlayStage.{PlayStage}
 use Rattle.play_workers.specs.declared.worker.Worker.{Worker}
-use Rattle.play_rounds.specs.Passes.{IsHome}
+use Rattle.play_rounds.specs.Passes.{IsAllJoined}
 use Rattle.play_rounds.specs.Rounds.{IsRound}
 use Rattle.play_rounds.proofs.WholeRounds.{begun_is, given_of, joined_track, news, nobody}
 use Rattle.play_workers.proofs.Answered.{history-prefix}
@@ -32,7 +32,7 @@ told_entries : (h : History TrackEntry) → map entry_of (all_entries h) ≡ his
 told_entries [] = refl
 told_entries (x ∷ h) = ap (λ z. entry_of x.1 ∷ z) (told_entries h)
 
-module _ (stage : PlayStage) (round : ℕ) (first : RenderView) (workers : List Worker) (after : RenderView) (home : IsHome stage.renderer first) (one : IsRound stage round first workers after) where
+module _ (stage : PlayStage) (round : ℕ) (first : RenderView) (workers : List Worker) (after : RenderView) (home : IsAllJoined stage.renderer first) (one : IsRound stage round first workers after) where
   -- what is new in the history
   abbrev pub told_new : List Entry
   told_new = map entry_of (news stage round first workers after home one).0

@@ -18,7 +18,7 @@ use Rattle.track_history.specs.Calls.{IsTurn, TrackView, history_of}
 use Rattle.track_history.specs.declared.answers.TrackEntry.{TrackEntry}
 use Rattle.turn_cell.specs.History.{entry_list}
 use Rattle.play_workers.specs.Asks.{masks_seen}
-use Rattle.play_rounds.specs.Passes.{IsCacheHome, IsHome}
+use Rattle.play_rounds.specs.Passes.{IsCacheHome, IsAllJoined}
 use Rattle.play_rounds.proofs.CacheAsks.{cache_asks_same, new_asks}
 use Rattle.play_rounds.proofs.CacheRounds.{cache_new, cache_turn}
 use Rattle.play_rounds.proofs.Shards.{first_itself, same_list}
@@ -29,11 +29,11 @@ nothing_found pass list zeroth whole itself ex =
     let now = length_whole pass pass.seen zeroth whole itself in let then = length_whole pass list zeroth whole ex in
     same_list pass.seen list ex.begins.0 ex.begins.1 (omega (arith, now, then))
 
-module _ (renderer : RendererView) (first after : RenderView) (entry : Option Entry) (home : IsHome renderer first) (is_of : IsPassOfRenderer renderer after) (turn : IsTurn first.track after.track entry) where
+module _ (renderer : RendererView) (first after : RenderView) (entry : Option Entry) (home : IsAllJoined renderer first) (is_of : IsPassOfRenderer renderer after) (turn : IsTurn first.track after.track entry) where
   pub found_same : history_of turn.turn.list ≡ history_of first.track.seen
   found_same = ap (λ (h : History TrackEntry). history_of h) (nothing_found first.track turn.turn.list home.number home.whole home.itself turn.turn.extends)
 
-  pub home_turn : after.caches ≡ first.caches → IsHome renderer after
+  pub home_turn : after.caches ≡ first.caches → IsAllJoined renderer after
   home_turn caches = record {
     is_of = is_of;
     number = turn.turn.follows.number ∙ home.number;
@@ -46,7 +46,7 @@ module _ (renderer : RendererView) (first after : RenderView) (entry : Option En
   }
 
 -- a new renderer's pass
-pub home_new : (renderer : RendererView) (first : RenderView) (budget : ℕ) → IsNewRenderer renderer first budget → IsHome renderer first
+pub home_new : (renderer : RendererView) (first : RenderView) (budget : ℕ) → IsNewRenderer renderer first budget → IsAllJoined renderer first
 home_new renderer first budget new =
     let is = new.track in record {
       is_of = new.is_of;
@@ -60,11 +60,11 @@ home_new renderer first budget new =
     }
 
 -- turns of the shards that gave nothing, at which the totals were read
-module _ (renderer : RendererView) (first after : RenderView) (home : IsHome renderer first) (is_of : IsPassOfRenderer renderer after) (track : after.track ≡ first.track)
+module _ (renderer : RendererView) (first after : RenderView) (home : IsAllJoined renderer first) (is_of : IsPassOfRenderer renderer after) (track : after.track ≡ first.track)
     (regions : EachGives equal_regions region_meaning renderer.caches.regions.shards first.caches.regions after.caches.regions (λ n. []))
     (masks : EachGives equal_masks mask_meaning renderer.caches.masks.shards first.caches.masks after.caches.masks (λ n. []))
     (composites : EachGives equal_composites composite_meaning renderer.caches.composites.shards first.caches.composites after.caches.composites (λ n. [])) where
-  pub home_read : IsHome renderer after
+  pub home_read : IsAllJoined renderer after
   home_read = record {
     is_of = is_of;
     number = ap (λ (p : TrackView). p.number) track ∙ home.number;

@@ -22,7 +22,7 @@ use Rattle.play_workers.specs.declared.worker.Outcome.TheVariants.{Idle}
 use Rattle.play_workers.specs.declared.worker.Role.{Role}
 use Rattle.play_workers.specs.declared.worker.Role.TheVariants.{Warmer}
 use Rattle.play_workers.specs.declared.worker.Worker.{Worker}
-use Rattle.play_rounds.specs.Passes.{AreRendersJoined, AreRendersSplit, ExtendsItself, HasIdlePass, IsHome}
+use Rattle.play_rounds.specs.Passes.{AreRendersJoined, AreRendersSplit, ExtendsItself, HasIdlePass, IsAllJoined}
 use Rattle.play_rounds.specs.Rounds.{AreHandedOut, IsRound, worker_roles}
 use Rattle.play_rounds.proofs.Hands.{some_same}
 use Rattle.play_rounds.proofs.CacheAsks.{begun_asks, cache_asks}
@@ -74,7 +74,7 @@ module _ (stage : PlayStage) (round : ℕ) (first split : RenderView) (handed wo
   begun_split : AreRendersSplit stage.renderer first count begun split
   begun_split = are_split begun begun_named
 
-  pub split_itself : IsHome stage.renderer first → ExtendsItself split
+  pub split_itself : IsAllJoined stage.renderer first → ExtendsItself split
   split_itself home = record {
     track = subst (λ (p : TrackView). Extends p p.seen) (sym begun_split.track.first_is) (extends_later first.track count home.itself);
     regions = caches_itself_later first.caches.regions split.caches.regions count (λ i. (begun i).caches.regions) begun_split.regions (λ n. (home.regions n).itself);
@@ -135,7 +135,7 @@ module _ (stage : PlayStage) (round : ℕ) (first split : RenderView) (handed wo
 
 -- ---- what a round adds
 
-module _ (stage : PlayStage) (round : ℕ) (first : RenderView) (workers : List Worker) (after : RenderView) (home : IsHome stage.renderer first) (one : IsRound stage round first workers after) where
+module _ (stage : PlayStage) (round : ℕ) (first : RenderView) (workers : List Worker) (after : RenderView) (home : IsAllJoined stage.renderer first) (one : IsRound stage round first workers after) where
   pub begun_is : (i : ℕ) → i < length workers → (one.begun i).track ≡ new_pass (record first.track { next = first.track.next + i })
   begun_is i lt = one.are_split.track.each i lt
 
@@ -158,7 +158,7 @@ module _ (stage : PlayStage) (round : ℕ) (first : RenderView) (workers : List 
       let none : mine (one.begun i).track ≡ [] = ap (λ (p : TrackView). mine p) (begun_is i lt) ∙ entries_of_below first.track.next (first.track.next + i) first.track.seen (home.itself.below home.number) (omega arith) in
       done.follows.mine ∙ ap (λ z. z ++ done.given) none
 
-  pub home_after : IsPassOfRenderer stage.renderer after → IsHome stage.renderer after
+  pub home_after : IsPassOfRenderer stage.renderer after → IsAllJoined stage.renderer after
   home_after is_of = let caches = stage.renderer.caches in record {
     is_of = is_of;
     number = joined_track.number ∙ home.number;

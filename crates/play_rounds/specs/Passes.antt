@@ -67,7 +67,7 @@ pub record ExtendsItself (pass : RenderView) : Type 0 where
   pub composites : EachExtendsItself pass.caches.composites
 
 -- What holds of the first pass of a play between two rounds: all other passes are joined, so it knows the whole history of the track and of each shard.
-pub record IsHome (renderer : RendererView) (first : RenderView) : Type 0 where
+pub record IsAllJoined (renderer : RendererView) (first : RenderView) : Type 0 where
   pub is_of : IsPassOfRenderer renderer first
   pub number : IsFirstPass first
   pub some : 0 < first.track.next

@@ -9,7 +9,7 @@ ghost use Rattle.play_workers.specs.Parts.{HasNoPass, HasPass, HasWorked};
 ghost use Rattle.play_workers.specs.Roles.{IsRoleOf};
 ghost use Rattle.play_workers.specs.Stages.{IsPlayStage};
 ghost use Rattle.play_workers.specs.declared.worker.Worker.{Worker};
-ghost use Rattle.play_rounds.specs.Passes.{AreRendersJoined, AreRendersSplit, ExtendsItself, HasIdlePass, IsHome};
+ghost use Rattle.play_rounds.specs.Passes.{AreRendersJoined, AreRendersSplit, ExtendsItself, HasIdlePass, IsAllJoined};
 ghost use Rattle.play_rounds.specs.Rounds.{AreHandedOut, IsRound, worker_roles};
 
 use crate::permits::Permits;
@@ -33,13 +33,13 @@ pub fn play_round<R: Threads + Wait + Sync, H: TestHook + Sync>(
     hook: &H,
 ) -> RenderPass
     requires stage { IsPlayStage stage.now }
-    requires home { IsHome stage.now.renderer first }
+    requires home { IsAllJoined stage.now.renderer first }
     requires room { first.track.next + length workers.old ≤ u32.MAX }
     requires idle { All HasNoPass workers.old }
     requires small { round ≤ max_rounds }
     requires some { 0 < length workers.old }
     requires roles { All (λ (w : Worker). IsRoleOf stage.now.job w.role) workers.old }
-    ensures home { IsHome stage.now.renderer result }
+    ensures home { IsAllJoined stage.now.renderer result }
     ensures drawn { result.track.next ≡ first.track.next + length workers.old }
     ensures idle { All HasNoPass workers.new }
     ensures roles { worker_roles workers.new ≡ worker_roles workers.old }

@@ -3,7 +3,7 @@
 ghost use Rattle.std.specs.Prelude.{◌≡◌, ◌+◌, ◌*◌, ◌<◌, ◌≤◌, length, All, IfErr, IfOk};
 ghost use Rattle.play_model.specs.Images.{shown_pieces};
 ghost use Rattle.play_workers.specs.Asks.{masks_seen};
-ghost use Rattle.play_rounds.specs.Passes.{IsHome};
+ghost use Rattle.play_rounds.specs.Passes.{IsAllJoined};
 ghost use Rattle.play_rounds.specs.Rounds.{worker_roles};
 ghost use Rattle.play_workers.specs.Limits.{max_rounds};
 ghost use Rattle.play_workers.specs.Parts.{HasNoPass};
@@ -48,8 +48,8 @@ fn one_round<R: Threads + Wait + Sync, F: Sink, H: TestHook + Sync>(
     requires some { 0 < length workers.old }
     requires few { length workers.old ≤ max_crew }
     requires roles { All (λ (w : Worker). IsRoleOf stage.now.job w.role) workers.old }
-    requires home { IsHome stage.now.renderer first }
-    ensures home { IsHome stage.now.renderer result.0 }
+    requires home { IsAllJoined stage.now.renderer first }
+    ensures home { IsAllJoined stage.now.renderer result.0 }
     ensures drawn { result.0.track.next ≡ first.track.next + length workers.old }
     ensures idle { All HasNoPass workers.new }
     ensures crew { worker_roles workers.new ≡ worker_roles workers.old }
@@ -90,8 +90,8 @@ fn all_rounds<R: Threads + Wait + Sync, F: Sink, H: TestHook + Sync>(
     requires few { length workers.old ≤ max_crew }
     requires roles { All (λ (w : Worker). IsRoleOf stage.now.job w.role) workers.old }
     requires room { first.track.next + rounds * max_crew ≤ u32.MAX }
-    requires home { IsHome stage.now.renderer first }
-    ensures home { IsHome stage.now.renderer result.0 }
+    requires home { IsAllJoined stage.now.renderer first }
+    ensures home { IsAllJoined stage.now.renderer result.0 }
     ensures drawn { result.0.track.next ≤ first.track.next + rounds * max_crew }
     ensures idle { All HasNoPass workers.new }
     ensures few { IfOk result.1 (λ more. more ≤ rounds * u32.MAX) }
@@ -128,8 +128,8 @@ pub fn play_shift<R: Threads + Wait + Sync, F: Sink, H: TestHook + Sync>(
 ) -> (RenderPass, Result<u64, Stop>)
     requires stage { IsPlayStage stage.now }
     requires room { first.track.next + max_drawn ≤ u32.MAX }
-    requires home { IsHome stage.now.renderer first }
-    ensures home { IsHome stage.now.renderer result.0 }
+    requires home { IsAllJoined stage.now.renderer first }
+    ensures home { IsAllJoined stage.now.renderer result.0 }
     ensures drawn { result.0.track.next ≤ first.track.next + max_drawn }
     ensures few { IfOk result.1 (λ more. more ≤ max_rounds * u32.MAX) }
     ensures played { IfOk result.1 (λ more. PlaysOn (play_on stage.now) (crew_of stage.now.job shift) 0 (rounds_of stage.now.job (length stage.now.good) shift)

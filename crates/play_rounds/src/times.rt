@@ -3,7 +3,7 @@
 ghost use Rattle.std.specs.Prelude.{◌≡◌, ◌+◌, ◌*◌, ◌<◌, ◌≤◌, [], IfErr, IfOk};
 ghost use Rattle.play_model.specs.Images.{shown_pieces};
 ghost use Rattle.play_workers.specs.Asks.{masks_seen};
-ghost use Rattle.play_rounds.specs.Passes.{IsHome};
+ghost use Rattle.play_rounds.specs.Passes.{IsAllJoined};
 ghost use Rattle.play_shares.specs.Instants.{instant_count};
 ghost use Rattle.run_words.specs.Limits.{max_times};
 ghost use Rattle.run_words.specs.declared.job.Mode.TheVariants.{Settled};
@@ -39,8 +39,8 @@ fn play_settled<R: Threads + Wait + Sync, F: Sink, H: TestHook + Sync>(
     requires stage { IsPlayStage stage.now }
     requires mode { stage.now.job.mode ≡ Settled }
     requires room { first.track.next + 2 * max_drawn ≤ u32.MAX }
-    requires home { IsHome stage.now.renderer first }
-    ensures home { IsHome stage.now.renderer result.0 }
+    requires home { IsAllJoined stage.now.renderer first }
+    ensures home { IsAllJoined stage.now.renderer result.0 }
     ensures drawn { result.0.track.next ≤ first.track.next + 2 * max_drawn }
     ensures few { IfOk result.1 (λ more. more ≤ 2 * (max_rounds * u32.MAX)) }
     ensures played { IfOk result.1 (λ more. PlaysTime (play_on stage.now) (history_of first.track.seen) (history_of result.0.track.seen) more
@@ -71,8 +71,8 @@ fn play_once<R: Threads + Wait + Sync, F: Sink, H: TestHook + Sync>(
 ) -> (RenderPass, Result<u64, Stop>)
     requires stage { IsPlayStage stage.now }
     requires room { first.track.next + 2 * max_drawn ≤ u32.MAX }
-    requires home { IsHome stage.now.renderer first }
-    ensures home { IsHome stage.now.renderer result.0 }
+    requires home { IsAllJoined stage.now.renderer first }
+    ensures home { IsAllJoined stage.now.renderer result.0 }
     ensures drawn { result.0.track.next ≤ first.track.next + 2 * max_drawn }
     ensures few { IfOk result.1 (λ more. more ≤ 2 * (max_rounds * u32.MAX)) }
     ensures played { IfOk result.1 (λ more. PlaysTime (play_on stage.now) (history_of first.track.seen) (history_of result.0.track.seen) more
@@ -96,8 +96,8 @@ fn begin_time<R: Wait>(
 ) -> RenderPass
     requires stage { IsPlayStage stage.now }
     requires time { time < max_times }
-    requires home { IsHome stage.now.renderer first }
-    ensures home { IsHome stage.now.renderer result }
+    requires home { IsAllJoined stage.now.renderer first }
+    ensures home { IsAllJoined stage.now.renderer result }
     ensures drawn { result.track.next ≡ first.track.next }
     ensures begins { BeginsTime (play_on stage.now) time (history_of first.track.seen) (history_of result.track.seen) }
     ensures asks { masks_seen stage.now.renderer result ≡ masks_seen stage.now.renderer first }
@@ -122,8 +122,8 @@ fn one_time<R: Threads + Wait + Sync, F: Sink, H: TestHook + Sync>(
     requires stage { IsPlayStage stage.now }
     requires time { time < stage.now.job.times }
     requires room { first.track.next + 2 * max_drawn ≤ u32.MAX }
-    requires home { IsHome stage.now.renderer first }
-    ensures home { IsHome stage.now.renderer result.0 }
+    requires home { IsAllJoined stage.now.renderer first }
+    ensures home { IsAllJoined stage.now.renderer result.0 }
     ensures drawn { result.0.track.next ≤ first.track.next + 2 * max_drawn }
     ensures few { IfOk result.1 (λ more. more.0 ≤ 2 * (max_rounds * u32.MAX)) }
     ensures played { IfOk result.1 (λ more. PlaysTimes (play_on stage.now) time (history_of first.track.seen) (history_of result.0.track.seen) more.0 more.1
@@ -154,10 +154,10 @@ pub fn all_times<R: Threads + Wait + Sync, F: Sink, H: TestHook + Sync>(
     hook: &H,
 ) -> (RenderPass, Result<Played, Stop>)
     requires stage { IsPlayStage stage.now }
-    requires home { IsHome stage.now.renderer first }
+    requires home { IsAllJoined stage.now.renderer first }
     requires new { history_of first.track.seen ≡ [] }
     requires next { first.track.next ≡ 1 }
-    ensures home { IsHome stage.now.renderer result.0 }
+    ensures home { IsAllJoined stage.now.renderer result.0 }
     ensures played { IfOk result.1 (λ played. HavePlayed (play_on stage.now) stage.now.job.times (history_of result.0.track.seen) played
         (λ images. AreImagesWritten images (F.state frames.old) (F.state frames.new) (masks_seen stage.now.renderer first) (masks_seen stage.now.renderer result.0))) }
     ensures stopped { IfErr result.1 (λ stop. IsStopped (play_on stage.now) stop (F.state frames.old) (F.state frames.new)) }

@@ -4,7 +4,7 @@ ghost use Rattle.std.specs.Prelude.{◌≡◌, ◌≤◌, ℕ, [], length, filte
 ghost use Rattle.std.specs.Arc.{arc_value};
 ghost use Rattle.play_model.specs.Plays.{IsPlayable};
 ghost use Rattle.play_workers.specs.Asks.{masks_seen};
-ghost use Rattle.play_rounds.specs.Passes.{IsHome};
+ghost use Rattle.play_rounds.specs.Passes.{IsAllJoined};
 ghost use Rattle.play_workers.specs.Stages.{IsPlayStage, play_on};
 ghost use Rattle.renderer.specs.Passes.{IsFirstPass, IsNewRenderer, IsPassOfRenderer, RenderView};
 ghost use Rattle.track_history.specs.Calls.{history_of};
@@ -52,7 +52,7 @@ fn set_stage(
     ensures stage { IfOk result (λ r. IsPlayStage r.0) }
     ensures play { IfOk result (λ r. play_on r.0 ≡ record { job = job; script = arc_value script; fonts = (arc_value fonts).fonts }) }
     ensures opened { IfOk result (λ r. IsNewRenderer r.0.renderer r.1 job.budget) }
-    ensures home { IfOk result (λ r. IsHome r.0.renderer r.1) }
+    ensures home { IfOk result (λ r. IsAllJoined r.0.renderer r.1) }
     ensures new { IfOk result (λ r. history_of r.1.track.seen ≡ []) }
     ensures next { IfOk result (λ r. r.1.track.next ≡ 1) }
 {
@@ -70,7 +70,7 @@ fn set_stage(
 
 /// The totals of the caches, when all other passes are joined.
 fn last_totals<R: Wait>(rt: &R, renderer: &Renderer, first: RenderPass) -> (RenderPass, [Totals; 3])
-    requires { IsHome renderer.now first }
+    requires { IsAllJoined renderer.now first }
     ensures pass { IsPassOfRenderer renderer.now result.0 }
     ensures first { IsFirstPass result.0 }
     ensures totals { (budget asks : ℕ) (opening : RenderView) → IsNewRenderer renderer.now opening budget → asks ≤ masks_seen renderer.now first

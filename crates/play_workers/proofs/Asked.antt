@@ -22,7 +22,7 @@ use Rattle.flight_cache.specs.declared.kept.Entry.{Entry}
 use Rattle.flight_cache.specs.declared.kept.Opening.{Opening}
 use Rattle.flight_cache.proofs.Refusing.{below-four}
 use Rattle.flight_cache.proofs.Rows.{gives_follow, gives_own_steps}
-use Rattle.mask_caches.specs.Courses.{Course, Failed, FailedApart, Filled, Found, MadeApart, Unasked, course_steps, fill_step, has_value}
+use Rattle.mask_caches.specs.Courses.{Course, Failed, FailedApart, Filled, Found, MadeApart, Spilled, Unasked, course_steps, fill_step, spill_step, has_value}
 use Rattle.mask_caches.specs.declared.caches.Caches.{Caches}
 use Rattle.mask_caches.specs.declared.passes.CachesPass.{CachesPass}
 use Rattle.mask_keys.specs.Equality.{equal_composites}
@@ -66,6 +66,7 @@ module _ {Z : Type 0} (fonts : Arc FontSet Z) where
   course_asks key Failed had = absurd cc
   course_asks key MadeApart had = omega arith
   course_asks key FailedApart had = absurd cc
+  course_asks key Spilled had = omega arith
   course_asks key Unasked had = absurd cc
 
   pub visits_ask : (visits : List KeyVisit) → All (λ (v : KeyVisit). has_value v.visit.course ≡ true) visits → length visits ≤ asks_of (visit_steps fonts visits)
@@ -83,6 +84,8 @@ module _ {Z : Type 0} (fonts : Arc FontSet Z) where
   course_of_one key Failed = All-cons IsOneStep (Ask key Claim) (Fail key ∷ []) tt (All-cons IsOneStep (Fail key) [] tt (All-nil IsOneStep))
   course_of_one key MadeApart = All-cons IsOneStep (Ask key Crowded) [] tt (All-nil IsOneStep)
   course_of_one key FailedApart = All-cons IsOneStep (Ask key Crowded) [] tt (All-nil IsOneStep)
+  course_of_one key Spilled =
+      All-cons IsOneStep (Ask key Claim) (spill_step composite_meaning fonts key ∷ []) tt (All-cons IsOneStep (spill_step composite_meaning fonts key) [] tt (All-nil IsOneStep))
   course_of_one key Unasked = All-nil IsOneStep
 
   pub visits_of_one : (visits : List KeyVisit) → All IsOneStep (visit_steps fonts visits)

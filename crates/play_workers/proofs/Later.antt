@@ -7,6 +7,7 @@ use Rattle.evict_core.specs.Machine.{Step}
 use Rattle.flight_cache.specs.Laws.{IsLater}
 use Rattle.flight_cache.specs.Shards.{CachePassView}
 use Rattle.flight_cache.proofs.Rows.{later_is_later}
+use Rattle.mask_caches.specs.declared.warming.Prefetched.{Prefetched}
 use Rattle.renderer.specs.declared.frames.Frame.{Frame}
 use Rattle.ass_num.specs.Masks.{MaskValue}
 use Rattle.mask_caches.specs.Adding.{Adds}
@@ -21,6 +22,7 @@ use Rattle.renderer.specs.Soon.{IsRenderedThen, IsTriedThenRendered}
 use Rattle.renderer.specs.Trying.{AddsNothing, IsTriedFrame}
 use Rattle.renderer.specs.Warming.{IsColdAt, IsWarmed, Refused, Unplanned}
 use Rattle.turn_cell.proofs.Passes.{Follows_same}
+use Rattle.turn_cell.specs.Passes.{Follows}
 use Rattle.mask_caches.specs.Warming.{AddsWarming, KeyVisit}
 use Rattle.play_workers.proofs.Asked.{pinned_later}
 
@@ -90,7 +92,7 @@ pub released_later : (renderer : RendererView) (pass after : RenderView) (steps 
     → after.caches.masks ≡ pass.caches.masks → after.caches.regions ≡ pass.caches.regions → AreLater pass.caches after.caches
 released_later renderer pass after steps adds masks regions = composites_later pass.caches after.caches masks regions adds.later
 
-pub warmed_later : {E : Type 0} (renderer : RendererView) (pass after : RenderView) (instants : List ℤ) (size : Size) (answer : Result ℕ E) → IsWarmed renderer pass after instants size answer → AreLater pass.caches after.caches
+pub warmed_later : {E : Type 0} (renderer : RendererView) (pass after : RenderView) (instants : List ℤ) (size : Size) (answer : Result Prefetched E) → IsWarmed renderer pass after instants size answer → AreLater pass.caches after.caches
 warmed_later renderer pass after instants size (Ok count) h = warming_later renderer.caches pass.caches after.caches _ h.2.warmed.adds
 warmed_later renderer pass after instants size (Err refused) h = cold h
   where
@@ -101,3 +103,11 @@ warmed_later renderer pass after instants size (Err refused) h = cold h
       composites = later_same pass.caches.composites after.caches.composites none.caches.composites;
     }
     cold (Refused plans n few warmed) = warming_later renderer.caches pass.caches after.caches _ warmed.warmed.adds
+
+pub warmed_track : {E : Type 0} (renderer : RendererView) (pass after : RenderView) (instants : List ℤ) (size : Size) (answer : Result Prefetched E) → IsWarmed renderer pass after instants size answer → Follows pass.track after.track []
+warmed_track renderer pass after instants size (Ok count) h = h.2.track
+warmed_track renderer pass after instants size (Err refused) h = cold h
+  where
+    cold : IsColdAt renderer pass after instants size → Follows pass.track after.track []
+    cold (Unplanned none) = none.track
+    cold (Refused plans n few warmed) = warmed.track

@@ -8,6 +8,7 @@ use Rattle.ass_num.specs.declared.size.Size.{Size}
 use Rattle.ass_script.specs.Scripts.{ScriptValue}
 use Rattle.blend.specs.Blending.{Image}
 use Rattle.blend.specs.Canvases.{CanvasValue, black}
+use Rattle.mask_caches.specs.declared.warming.Prefetched.{Prefetched}
 use Rattle.renderer.proofs.PaintedPictures.{canvas-picture}
 use Rattle.renderer.specs.ShownFrames.{AreFramePixels, ShowsDraws, canvas_of, image_shown}
 use Rattle.renderer.specs.declared.frames.Frame.{Frame}
@@ -35,13 +36,13 @@ use Rattle.y4m_text.specs.Streams.{frame_bytes}
 use Rattle.y4m_text.specs.declared.form.VideoForm.{VideoForm}
 use Rattle.play_workers.specs.Asks.{IsImageOfDraws}
 use Rattle.play_workers.specs.FrameImages.{IsImageOfFrame}
-use Rattle.mask_caches.proofs.Warmed.{before-itself}
+use Rattle.mask_caches.proofs.KeysWarmed.{before-itself}
 
 pub soon_follows : {E : Type 0} (renderer : RendererView) (pass after : RenderView) (t : ℤ) (size : Size) (answer : Result Frame E) → IsTriedThenRendered renderer pass after t size answer → Follows pass.track after.track []
 soon_follows renderer pass after t size (Ok frame) h = ⊎_elim (λ tried. turn_alone pass.track after.track tried.turn) (λ then. turn_alone pass.track after.track then.rendered.turn) h
 soon_follows renderer pass after t size (Err refused) h = ⊎_elim (λ none. turn_alone pass.track after.track none.turn) (λ then. turn_alone pass.track after.track then.rendered.turn) h
 
-pub warmed_follows : {E : Type 0} (renderer : RendererView) (pass after : RenderView) (instants : List ℤ) (size : Size) (answer : Result ℕ E) → IsWarmed renderer pass after instants size answer → Follows pass.track after.track []
+pub warmed_follows : {E : Type 0} (renderer : RendererView) (pass after : RenderView) (instants : List ℤ) (size : Size) (answer : Result Prefetched E) → IsWarmed renderer pass after instants size answer → Follows pass.track after.track []
 warmed_follows renderer pass after instants size (Ok count) h = h.2.track
 warmed_follows renderer pass after instants size (Err refused) h = cold h
   where

@@ -22,7 +22,7 @@ use Rattle.play_workers.specs.Parts.{painted_bytes}
 use Rattle.play_workers.proofs.Answered.{history-prefix}
 use Rattle.play_workers.proofs.Later.{caches_same, caches_then}
 use Rattle.play_workers.proofs.Painted.{holds_itself}
-use Rattle.mask_caches.proofs.Warmed.{before-then}
+use Rattle.mask_caches.proofs.KeysWarmed.{before-then}
 
 -- The pass is one of the renderer and goes on from the other; it gave the track nothing, and holds what that one held.
 pub record GoesOn (renderer : RendererView) (pass after : RenderView) : Type 0 where

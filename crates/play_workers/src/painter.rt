@@ -6,7 +6,7 @@ ghost use Rattle.ass_events.specs.Histories.{Entry};
 ghost use Rattle.ass_num.specs.Limits.{IsWithin, max_instant};
 ghost use Rattle.mask_caches.specs.Balance.{AreLater};
 ghost use Rattle.renderer.specs.Frames.{IsFrameOf};
-ghost use Rattle.renderer.specs.Holding.{HoldsJustTheFrame, HoldsTheSame};
+ghost use Rattle.renderer.specs.Holding.{HoldsJustTheFrame, HoldsTheSame, IsHomeFrame};
 ghost use Rattle.renderer.specs.Passes.{IsPassOfRenderer};
 ghost use Rattle.track_history.specs.Calls.{history_of};
 ghost use Rattle.turn_cell.specs.Passes.{Follows};
@@ -45,6 +45,7 @@ fn frame_at<R: Wait, H: TestHook>(
     ensures later { AreLater pass.caches result.0.caches }
     ensures frame { IfOk result.1 (IsFrameAsked stage.now.renderer pass result.0 (history_of result.0.track.seen) t stage.now.job.size) }
     ensures holds { HoldsJustTheFrame stage.now.renderer pass result.0 result.1 }
+    ensures home { IfOk result.1 (IsHomeFrame stage.now.renderer) }
 {
     stage.renderer.proof_kept(&pass);
     let size = &stage.job.size;

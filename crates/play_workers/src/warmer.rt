@@ -10,6 +10,7 @@ ghost use Rattle.play_workers.specs.Stages.{IsPlayStage};
 
 use crate::stage::PlayStage;
 use ass_num::Mem;
+use mask_caches::Prefetched;
 use play_shares::ahead_instants;
 use renderer::RenderPass;
 use std::alloc::Global;
@@ -24,7 +25,7 @@ pub fn warm_part<R: Wait, H: TestHook>(
     round: usize,
     pass: RenderPass,
     hook: &H,
-) -> (RenderPass, Mem<usize>)
+) -> (RenderPass, Mem<Prefetched>)
     requires stage { IsPlayStage stage.now }
     requires small { round ≤ max_frames }
     requires pass { IsPassOfRenderer stage.now.renderer pass }

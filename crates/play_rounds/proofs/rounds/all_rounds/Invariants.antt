@@ -2,7 +2,7 @@ use Rattle.std.proofs.Common.{◌≡◌, ◌+◌, ◌*◌, ◌≤◌}
 use Rattle.std.specs.List.{All}
 use Rattle.track_history.specs.Calls.{history_of}
 use Rattle.play_workers.specs.Asks.{masks_seen}
-use Rattle.play_rounds.specs.Passes.{IsHome}
+use Rattle.play_rounds.specs.Passes.{IsAllJoined}
 use Rattle.play_rounds.specs.Rounds.{worker_roles}
 use Rattle.play_workers.specs.Parts.{HasNoPass}
 use Rattle.play_workers.specs.Stages.{play_on}
@@ -13,7 +13,7 @@ use Rattle.play_rounds.proofs.rounds.all_rounds.Given as goal
 
 abbrev pub invariant-loop-round : goal.invariant-loop-round
 invariant-loop-round g l = record {
-  home : IsHome l.stage.renderer l.first;
+  home : IsAllJoined l.stage.renderer l.first;
   drawn : l.first.track.next ≤ l.fn.first.track.next + l.round * max_crew;
   idle : All HasNoPass l.workers;
   crew : worker_roles l.workers ≡ worker_roles l.initial.workers;

@@ -1,7 +1,7 @@
 use Rattle.std.proofs.Common.{◌+◌, ◌*◌, ◌≤◌}
 use Rattle.track_history.specs.Calls.{history_of}
 use Rattle.play_workers.specs.Asks.{masks_seen}
-use Rattle.play_rounds.specs.Passes.{IsHome}
+use Rattle.play_rounds.specs.Passes.{IsAllJoined}
 use Rattle.play_workers.specs.Limits.{max_rounds}
 use Rattle.play_workers.specs.Stages.{play_on}
 use Rattle.play_rounds.specs.Limits.{max_drawn}
@@ -11,7 +11,7 @@ use Rattle.play_rounds.proofs.times.all_times.Given as goal
 
 abbrev pub invariant-loop-time : goal.invariant-loop-time
 invariant-loop-time g l = record {
-  home : IsHome l.stage.renderer l.first;
+  home : IsAllJoined l.stage.renderer l.first;
   drawn : l.first.track.next ≤ 1 + l.time * (2 * max_drawn);
   few : l.played.repeated ≤ l.time * (2 * (max_rounds * 4294967295));
   so_far : HavePlayed (play_on l.stage) l.time (history_of l.first.track.seen) l.played

@@ -12,6 +12,9 @@ use Rattle.play_workers.proofs.painter.paint_instant.Goals as goal
 pub image_of-image-requires-clause-size : goal.image_of-image-requires-clause-size
 image_of-image-requires-clause-size g c = λ κs h. (rw c.in-Ok.is at c.frame_at-pass.ensures.frame).is.size_is
 
+pub release-pass-requires-clause-own : goal.release-pass-requires-clause-own
+release-pass-requires-clause-own g c = rw c.in-Ok.is at c.frame_at-pass.ensures.home
+
 pub release-pass-requires-clause-held : goal.release-pass-requires-clause-held
 release-pass-requires-clause-held g c =
     leases-held c.args.stage.now.renderer.caches c.args.pass.caches c.frame_at-pass.result.0.caches (leases_of c.in-Ok.frame.images) (rw c.in-Ok.is at c.frame_at-pass.ensures.holds)
