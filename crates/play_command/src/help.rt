@@ -5,7 +5,7 @@ pub const HELP: &str = "\
 usage: vimalorua WORDS..
 
   check [--script-fonts] SCRIPT FONT..
-      reports on standard error what an ASS script and from 1 to 64 fonts, BDF or TrueType, hold,
+      reports on standard error what an ASS script and from 1 to 64 fonts, BDF or OpenType, hold,
       and each line that can't be read; --script-fonts: the script's own fonts are used too, behind
       the others
   frame --at MS --size WxH [--storage WxH] [--aspect N/D] [--content X,Y,WxH]

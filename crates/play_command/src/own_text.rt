@@ -8,7 +8,7 @@ use ass_io::Sink;
 use single_run::{Outcome, show};
 
 /// The program and its version.
-pub const VERSION: &str = "vimalorua 1.9.0\n";
+pub const VERSION: &str = "vimalorua 1.10.0\n";
 
 /// Puts a text of the program to the frames sink, up to what is to be reported of that.
 #[tactic(auto, using(crate::proofs::TextLemmas::shown_is_worked))]
