@@ -1,5 +1,6 @@
-"""A model of docs/POSTSCRIPT.md: read(data, place, size) gives a Cff or raises Refusal; path(cff, g) gives the segments of glyph g,
-in 1/65,536 of a unit, or None where its bytes are broken. Whole numbers only."""
+"""A model of docs/POSTSCRIPT.md: read(data, place, size) gives a Cff or raises Refusal; path(cff, g, units) gives the segments of
+glyph g of a font whose em has so many units, in 1/65,536 of a unit, behind the matrix of the glyph, or None where its bytes are
+broken or a point is too far from 0. Whole numbers only."""
 
 ONE = 65536
 FUEL = 65536          # a glyph has fewer numbers and operators
@@ -7,6 +8,9 @@ STACK = 48
 DEPTH = 10
 STEMS = 96
 FAR = 65535 * ONE
+DECIMAL = 10 ** 15    # 1 in a matrix of a DICT
+MOST = 1000 * DECIMAL # the most that a number of it is
+MATRIX = 3072 + 7
 
 
 class Refusal(Exception):
@@ -127,6 +131,104 @@ def operands(d, stretch, op):
                 return a, b
             a = b = 0
     return None
+
+
+# ---- matrices
+
+def halves(d, at, to):
+    """The halves of bytes, the upper one of each first."""
+    return [half for k in range(at, to) for half in (u8(d, k) >> 4, u8(d, k) & 15)]
+
+
+def real(d, at, to):
+    """The real number of these bytes, in 10^-15."""
+    text = ""
+    for half in halves(d, at, to):
+        if half == 15:
+            break
+        text += "0123456789.EN?-"[half]
+    return real_of(text)
+
+
+def real_of(text):
+    """The same of its signs, of which N is E-, rounded towards 0."""
+    part, digits, places, power, below, minus = "whole", 0, 0, 0, False, False
+    for sign in text:
+        if sign.isdigit():
+            if part == "power":
+                power = power * 10 + int(sign)
+            else:
+                digits, places = digits * 10 + int(sign), places + (part == "places")
+        elif sign == ".":
+            part = "places"
+        elif sign in "EN":
+            part, below = "power", below or sign == "N"
+        elif sign == "-":
+            minus = True
+    power = min(power, len(text) + 40) # beyond that a number is 0, or too great, whatever its digits are
+    value = min(digits * 10 ** (0 if below else power) * DECIMAL // 10 ** (places + (power if below else 0)), MOST)
+    return -value if minus else value
+
+
+def numbers(d, stretch, op):
+    """All numbers before the first operator of this kind, in 10^-15; None without one, or where the DICT is broken before it."""
+    at, to = stretch
+    held = []
+    while at < to:
+        t = dict_token(d, at, to)
+        if t is None:
+            return None
+        kind, v, behind = t
+        if kind == "operator":
+            if v == op:
+                return held
+            held = []
+        else:
+            held.append(real(d, at + 1, behind) if u8(d, at) == 30 else max(-MOST, min(MOST, v * DECIMAL)))
+        at = behind
+    return None
+
+
+def dict_matrix(d, stretch):
+    """xx, yx, xy, yy, x, y; None where the DICT has none, where they are fewer, or where a square is flat or too narrow behind them."""
+    held = numbers(d, stretch, MATRIX)
+    if held is None or len(held) < 6:
+        return None
+    xx, yx, xy, yy = held[:4]
+    return held[:6] if sum(v * v for v in held[:4]) < 51 * abs(xx * yy - xy * yx) else None
+
+
+def share(top, below):
+    """A fraction, rounded to the nearest, and held at 65,536 in 1/65,536."""
+    return max(-ONE * ONE, min(ONE * ONE, (top + below // 2) // below))
+
+
+def by_em(m):
+    """A matrix in 1/65,536 of its own em."""
+    em = abs(m[3]) or abs(m[1])
+    return [share(v * ONE, em) for v in m]
+
+
+def product(m, own):
+    xx, yx, xy, yy, x, y = own
+    return [share(v, DECIMAL) for a, b in ((xx, yx), (xy, yy), (x, y)) for v in (m[0] * a + m[2] * b, m[1] * a + m[3] * b)]
+
+
+def glyph_matrix(c, g, units):
+    """The matrix of a glyph in 1/65,536, if it has one."""
+    top, own = dict_matrix(c.d, c.top), None
+    if c.dicts is not None:
+        k = font_number(c, g)
+        dic = None if k is None else item(c.d, c.dicts, k)
+        own = None if dic is None else dict_matrix(c.d, dic)
+    if own is None:
+        return None if top is None else by_em(top)
+    return product([units * ONE, 0, 0, units * ONE, 0, 0] if top is None else by_em(top), own)
+
+
+def turned(m, p):
+    """A point behind a matrix."""
+    return held(tuple((a * p[0] + b * p[1] + ONE // 2) // ONE + shift for a, b, shift in ((m[0], m[2], m[4]), (m[1], m[3], m[5]))))
 
 
 class Cff:
@@ -423,8 +525,9 @@ def run(c, g, count=None):
     raise Broken()
 
 
-def path(c, g):
+def path(c, g, units=1000):
     try:
-        return run(c, g)[0]
+        segs, m = run(c, g)[0], glyph_matrix(c, g, units)
+        return segs if m is None else [(t[0], *(turned(m, p) for p in t[1:])) for t in segs]
     except Broken:
         return None

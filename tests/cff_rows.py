@@ -8,7 +8,7 @@ import sys
 
 sys.path.insert(0, os.path.dirname(os.path.abspath(__file__)))
 import cff_model as model
-from hand_cff import index, table
+from hand_cff import index, matrix, real, table
 
 FOLDER = os.path.dirname(os.path.dirname(os.path.abspath(__file__))) + "/crates/cff_vectors"
 
@@ -52,14 +52,38 @@ def long_glyph(steps):
     return "1 hlineto " + "-105 callgsubr " * 13 + "-106 callgsubr " * 5 + "hlineto " * left + "endchar"
 
 
-def told(c, g):
-    return "".join((" | L" if s[0] == "M" else " " + s[0]) + "".join(" %d,%d" % q for q in s[1:]) for s in model.path(c, g) or [])
+# Matrices of a Top DICT. A scale alone changes nothing; then others, in many spellings; then what is none.
+TOPS = [
+    "0.001 0 0 0.001 0 0", "4.8828125e4 0 0 .00048828125 0 0", "1 0 0 1 0 0", "1e3 0 0.0002 1e3 0 0", "0.002 0 0 0.001 0 0",
+    "0.000333333333333333 0 0 0.001 0 0", "0.001 0 0 -0.001 0 0", "-.001 0 0 .001 0 0", "0 0.001 -0.0005 0 0 0", "0.001 0 0 0.001 0.05 -0.0205",
+    "0.0000000000000017 0 0 0.000000000000001 0 0", "2E2 0 0 10E1 0 0", "2000.5 0 0 500 0 0", "1E30 0 0 1E3 0 0", "2e0e1 0 0 0.1.0.5 0 0",
+    "0.002 0 0 0.001 0 0 7", "7 0.002 0 0 0.001 0 0", "0.05 0 0 0.001 0 0", "900 0 0 800.25 1000 0",
+    "48828125e11 0 68623716e12 .00048828125 0 0", "1234e6 0 0 1000e6 0 0", "0.0000000000000000000012E18 0 0 0.001 0 0", "120000000000000000000000e26 0 0 0.001 0 0",
+    "0.001234567890123456789012345678901234567890 0 0 0.001 0 0", "1234567890.123456789012345e12 0 0 0.001 0 0", "98765432109876543210987e24 0 0 .1 0 0",
+    "12345678901234567890e19 0 0 1 0 0", "1 0 0 1 100e20 1e18446744073709551617", "1 0 0 0.5 0.00000000000000000000000000000001E34 1E18446744073709551616",
+    "0.002 0 0 0.001 0", "0.001 0.001 0.001 0.001 0 0", "0 0 0 0 0 0", "0.051 0 0 0.001 0 0", "1e16 0 0 1e16 0 0", "1e99 0 0 1 0 0",
+]
+# Those of a Top DICT and of font DICTs, and the units of the em
+OWN_MATRICES = [
+    ("", ["0.001 0 0 0.001 0 0", "0.0005 0 0 0.0005 0 0"], 1000), ("", ["0.001 0 0.0002 0.0015 0.05 0", "1 0 0 1 0 0"], 2048),
+    ("0.001 0 0 0.001 0.5 0", ["1 0 0 1 0 0", "0 1 -1 0 50.5 -20"], 1000), ("0.001 0 0.0002 0.001 0 0", ["1 0.1 0 1 0 0", "1 1 1 1 0 0"], 1000),
+    ("0.001 0.001 0.001 0.001 0 0", ["0.002 0 0 0.001 0 0", "0.001 0 0 0.001 0"], 65535), ("500 0 0 1 0 0", ["900 0 0 900 0 0", "0.5 0 0 1 1000 0"], 1000),
+]
+# The numbers of a matrix as bytes, whatever they are
+BYTES = [
+    b"\x1c\x00\x02\x8b\x8b\x1d\x00\x00\x00\x01\xf7\x00\xfb\x00", b"\x1d\x00\x01\x86\xa0\x8b\x8b\x1d\x00\x00\x03\xe8\x8b\x8b",
+    b"\x1e\x2d\xff\x8b\x8b\x8c\x8b\x8b", b"\x1e\x2f\x8b\x8b\x1e\x1f\x8b\x8b", b"\x1e\xf2\x8b\x8b\x8c\x8b\x8b", b"\x8d\x8b\x8b\x8c\x8b\x1e\x12",
+]
+
+
+def told(c, g, units):
+    return "".join((" | L" if s[0] == "M" else " " + s[0]) + "".join(" %d,%d" % q for q in s[1:]) for s in model.path(c, g, units) or [])
 
 
 ROWS, ANSWERS = [], []
 
 
-def ask(data, glyphs, size=None):
+def ask(data, glyphs, size=None, units=1000):
     ROWS.append("file")
     for i in range(0, len(data), 60):
         ROWS.append("bytes " + data[i:i + 60].hex())
@@ -69,9 +93,24 @@ def ask(data, glyphs, size=None):
     except model.Refusal as r:
         refusal = r
     for g in glyphs:
-        row = "glyph 0 %d %d" % (size, g)
+        row = "glyph 0 %d %d" % (size, g) + (" %d" % units if units != 1000 else "")
         ROWS.append(row)
-        ANSWERS.append(row + ":" + ("CffRefusal { place: %d, cause: %s }" % (refusal.byte, refusal.cause) if refusal else told(c, g)))
+        ANSWERS.append(row + ":" + ("CffRefusal { place: %d, cause: %s }" % (refusal.byte, refusal.cause) if refusal else told(c, g, units)))
+
+
+def ask_matrices():
+    """Rows on matrices."""
+    drawn = ["10 -20 rmoveto 3.5 400 -50 0.25 100 7 rrcurveto -300 hlineto endchar"] * 2
+    for text in TOPS:
+        ask(table(drawn[:1], top=matrix(text)), [0])
+    for text in BYTES:
+        ask(table(drawn[:1], top=text + b"\x0c\x07"), [0])
+    ask(table(drawn[:1], top=matrix("0.002 0 0 0.001 0 0") + matrix("0.001 0 0 0.001 0 0")), [0])
+    ask(table(drawn[:1], top=real("5") * 2 + b"\x0c\x08" + matrix("0.002 0 0 0.001 0 0")), [0])
+    for top, own, units in OWN_MATRICES:
+        front = matrix(top) if top else b""
+        ask(table(drawn, top=front, dicts=[[], []], select=bytes([0, 0, 1]), fronts=[matrix(it) for it in own]), [0, 1], units=units)
+    ask(table(drawn, dicts=[[], []], select=bytes([0, 0, 1]), fronts=[matrix("0.002 0 0 0.001 0 0"), b""]), [0, 1])
 
 
 def main():
@@ -86,6 +125,7 @@ def main():
     for size in (1, 3, 4):
         ask(table(GLYPHS[2:4], SHARED[:1], OWN[:1], size=size), [0, 1])
     ask(table(GLYPHS[2:3], top=b"\x1e\x0a\x14\x05\x41\xff\x0c\x07"), [0])
+    ask_matrices()
     small = table(GLYPHS[2:3])
     ask(table(GLYPHS[2:3], top=b"\x8c\x0c\x06"), [0])
     ask(table(GLYPHS[2:3], top=b"\x8d\x0c\x06"), [0])

@@ -63,6 +63,19 @@ def entry(operator, *values):
 
 
 GLYPHS, PRIVATE, SUBROUTINES, DICTS, SELECT = b"\x11", b"\x12", b"\x13", b"\x0c\x24", b"\x0c\x25"
+SIGNS = {**{str(digit): digit for digit in range(10)}, ".": 10, "E": 11, "e": 12, "-": 14}
+
+
+def real(text):
+    """A real number of a DICT; e is E before an exponent below 0."""
+    halves = [SIGNS[it] for it in text] + [15]
+    halves += [15] * (len(halves) % 2)
+    return bytes([30]) + bytes(high << 4 | low for high, low in zip(halves[::2], halves[1::2]))
+
+
+def matrix(text):
+    """FontMatrix behind numbers, whole ones or real ones."""
+    return b"".join(real(it) if set(it) & set(".Ee") else number(int(it)) for it in text.split()) + b"\x0c\x07"
 
 
 def private(subroutines, size):
@@ -71,9 +84,10 @@ def private(subroutines, size):
     return (entry(SUBROUTINES, 6), subs) if subroutines else (b"", b"")
 
 
-def table(glyphs, shared=(), own=(), top=b"", dicts=None, select=None, size=1):
+def table(glyphs, shared=(), own=(), top=b"", dicts=None, select=None, size=1, fronts=None):
     """A table of these charstrings, and of subroutines for all and for its own; with `dicts`, lists of subroutines, it has
-    a font DICT for each, and `select` chooses among them. `top` stands before what else its Top DICT has."""
+    a font DICT for each, and `select` chooses among them. `top` stands before what else its Top DICT has, and each of
+    `fronts` before what else a font DICT has."""
     head = bytes([1, 0, 4, 4]) + index([b"A"])
     tail = index([b"text"]) + index([charstring(it) for it in shared], size)
     body = index([charstring(it) for it in glyphs], size)
@@ -82,8 +96,8 @@ def table(glyphs, shared=(), own=(), top=b"", dicts=None, select=None, size=1):
     def file_with(at):
         """The table where its charstrings stand at a place."""
         place, fonts = at + len(body), []
-        for held, subs in blocks:
-            fonts.append(entry(PRIVATE, len(held), place))
+        for (held, subs), front in zip(blocks, fronts or [b""] * len(blocks)):
+            fonts.append(front + entry(PRIVATE, len(held), place))
             place += len(held) + len(subs)
         if dicts is None:
             found, behind = fonts[0], b""
@@ -229,9 +243,31 @@ def ranges(count):
     return bytes([3]) + words(3, 0) + b"\0" + words(count // 2) + b"\1" + words(count - 5) + b"\0" + words(count)
 
 
+# What makes a font one of font DICTs
+BY_NUMBERS = entry(b"\x0c\x1e", 391, 391, 0)
+
+
 def font_of_dicts(select, names):
     held = glyphs()
-    return font_of(table([text for _, _, text in held], SHARED, top=entry(b"\x0c\x1e", 391, 391, 0), dicts=[OWN, OTHER_OWN], select=select, size=3), held, names)
+    return font_of(table([text for _, _, text in held], SHARED, top=BY_NUMBERS, dicts=[OWN, OTHER_OWN], select=select, size=3), held, names)
+
+
+# Fonts with matrices: that of the Top DICT, and those of two font DICTs
+MATRICES = {
+    "cff_matrix.otf": ("0.0012 0.0001 0.0003 0.001 0.05 -0.02", []),
+    "cff_turned.otf": ("0 5e4 -1e3 0 0.3 0", []),
+    "cff_own_matrices.otf": ("", [".0008 0 0 .0008 0 0", "0.0005 0 0.0002 0.0005 0.03 0"]),
+    "cff_matrices.otf": ("48828125e11 0 0.0000000000000000001E15 48828125e11 0 0", ["1 0 0 1 50 0", "1.5 0 0 -1 0 500.5"]),
+}
+
+
+def font_of_matrices(top, own):
+    """A font with a matrix in its Top DICT, or without one, and such ones in its font DICTs, if it has any."""
+    held, front = glyphs(), matrix(top) if top else b""
+    texts, turns = [text for _, _, text in held], bytes([0]) + bytes(k % 2 for k in range(len(held)))
+    if not own:
+        return font_of(table(texts, SHARED, OWN, top=front, size=2), held)
+    return font_of(table(texts, SHARED, top=BY_NUMBERS + front, dicts=[OWN, OWN], select=turns, fronts=[matrix(it) for it in own], size=3), held)
 
 
 def small(**given):
@@ -262,6 +298,7 @@ def fonts():
     yield "cff_ranges.otf", font_of_dicts(ranges(count), ("Post Ranges", "Post Ranges Whole", "PostRangesPS"))
     yield "cff_list.otf", font_of_dicts(bytes([0]) + bytes(k % 2 for k in range(count)), ("Post List", "Post List Whole", "PostListPS"))
     yield from ((f"cff_{own}_{shared}.otf", font_of_many(own, shared)) for own, shared in MANY)
+    yield from ((name, font_of_matrices(*it)) for name, it in MATRICES.items())
     yield from faults()
 
 

@@ -63,6 +63,7 @@ def postscript(score, given):
         drawn = sum(bool(font.strokes(k)) for k in range(len(letters)))
         score.check(drawn == wanted, f"{name}: {drawn} glyphs draw something in the model, and not {wanted}")
     many(score, given)
+    matrices(score, given)
     beside_broken(score, given)
     names(score, given)
 
@@ -74,6 +75,17 @@ def many(score, given):
         letters, font = [chr(hand_cff.FIRST_CODE + k) for k in range(2, 6)], font_of(path)
         score.add(*truetype_fonts.compare_pictures(given.program, path, font, given.room, letters, PLAIN))
         score.check(all(font.strokes(font.glyph(ord(it))) for it in letters), f"{path}: a subroutine draws nothing in the model")
+
+
+def matrices(score, given):
+    """Letters of fonts whose DICTs have matrices, each of which looks otherwise than without one."""
+    letters, plain = [hand_letter(it) for it in ("lines", "level lines", "curves", "curves, then a line")], font_of(f"{given.room}/cff.otf")
+    for name in hand_cff.MATRICES:
+        path = f"{given.room}/{name}"
+        font = font_of(path)
+        score.add(*truetype_fonts.compare_pictures(given.program, path, font, given.room, letters, PLAIN))
+        same = [it for it in letters if font.strokes(font.glyph(ord(it))) == plain.strokes(plain.glyph(ord(it)))]
+        score.check(not same, f"{path}: a matrix changes nothing in the model")
 
 
 def beside_broken(score, given):
@@ -252,7 +264,7 @@ def main():
     given = words_given()
     counts = [it for path in given.fonts for it in compare_font(given, path)]
     if given.answers and given.mutants:
-        fonts = [*map(font_of, given.fonts), *(model.Font(held) for name, held in hand_cff.fonts() if name in HAND)]
+        fonts = [*map(font_of, given.fonts), *(model.Font(held) for name, held in hand_cff.fonts() if name in HAND or name in hand_cff.MATRICES)]
         tables = [(table_of(it), it.count) for it in fonts if it.tables["CFF "][1] < MOST_CHANGED]
         counts.append(compare_mutants(given.answers, tables, given.mutants))
     passed, failed = (sum(it) for it in zip(*counts))

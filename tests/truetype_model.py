@@ -157,7 +157,7 @@ class Font:
 
     def strokes(self, g):
         """The path of a glyph with PostScript outlines, in 1/65,536 of a unit: moves, lines and curves."""
-        return cff_model.path(self.cff, g) or [] if self.cff else []
+        return cff_model.path(self.cff, g, self.units) or [] if self.cff else []
 
     def contours(self, g):
         """The contours of a glyph: points (x, y, on); none of one with PostScript outlines."""
