@@ -1,8 +1,8 @@
 #!/usr/bin/env bash
 # Measures plays of the proved program: frames a second of settled plays of 200 signs by 1, 2 and 4 renderers, and in 4 bands; of one
-# line and of many, small and large, and of short and long scripts; memory of plays of many images, and selftests. Each time is the least
-# of RUNS runs, and each peak the greatest. play.sh [RUNS [PART]]: 3 runs and all parts where none are given; the parts are speed, lines,
-# memory and selftest.
+# line and of many, small and large, and of short and long scripts; memory of plays of many images, and of keys that take more than their
+# masks; what renderers cost that wait for one mask; and selftests. Each time is the least of RUNS runs, and each peak the greatest.
+# play.sh [RUNS [PART]]: 3 runs and all parts where none are given; the parts are speed, lines, memory, keys, waiting and selftest.
 set -eu
 
 top=$(dirname -- "$(dirname -- "$(readlink -f -- "${BASH_SOURCE[0]}")")")
@@ -90,6 +90,28 @@ if asked memory; then
             measure "a line a second, $count frames of 640x360, 4 renderers, budget ${budget:-by default}" "$count" \
                 "$program" play --mode settled --from 0 --to $((count * 1000)) --step 1000 --size 640x360 --renderers 4 ${budget:+--budget "$budget"} talk.ass "$font"
         done
+    done
+fi
+# 20,000 marks of no advance: each frame has one mask of one pixel, and a key with a part for each mark, another one in each frame
+if asked keys; then
+    {
+        printf 'STARTFONT 2.1\nFONT marks\nSIZE 1 72 72\nFONTBOUNDINGBOX 1 1 0 0\nSTARTPROPERTIES 3\nFAMILY_NAME "Marks"\nFONT_ASCENT 1\nFONT_DESCENT 0\nENDPROPERTIES\n'
+        printf 'CHARS 1\nSTARTCHAR a\nENCODING 97\nSWIDTH 0 0\nDWIDTH 0 0\nBBX 1 1 0 0\nBITMAP\n80\nENDCHAR\nENDFONT\n'
+    } > marks.bdf
+    page "{\\t(\\fscy200)}$(head -c 20000 /dev/zero | tr '\0' a)" | sed 's/Subtitle,48/Marks,1/' > marks.ass
+    for count in 200 2000; do
+        measure "20,000 marks of no advance, $count frames of 64x64, budget 65536" "$count" \
+            "$program" play --mode settled --from 0 --to "$((count * 4))" --step 4 --size 64x64 --budget 65536 marks.ass marks.bdf
+    done
+fi
+
+# Eight frames that want one mask which takes about 0.1 s: by one renderer, and by four and eight, of which one makes it and the others
+# wait. What they cost more on the processors is their waiting
+if asked waiting; then
+    page '{\an5\pos(960,540)\bord120\blur60}slow' > slow.ass
+    for renderers in 1 4 8; do
+        measure "one slow mask, 8 frames of 1920x1080, $renderers renderers" 8 \
+            "$program" play --mode settled --from 5000 --to 5320 --step 40 --size 1920x1080 --renderers "$renderers" slow.ass "$font"
     done
 fi
 if asked selftest; then
