@@ -2,7 +2,7 @@
 # Measures plays of the proved program: frames a second of settled plays of 200 signs by 1, 2 and 4 renderers, and in 4 bands; of one
 # line and of many, small and large, and of short and long scripts; memory of plays of many images, and of keys that take more than their
 # masks; what renderers cost that wait for one mask; and selftests. Each time is the least of RUNS runs, and each peak the greatest.
-# play.sh [RUNS [PART]]: 3 runs and all parts where none are given; the parts are speed, lines, memory, keys, waiting and selftest.
+# play.sh [RUNS [PART]]: 3 runs and all parts where none are given; the parts are speed, lines, memory, keys and selftest.
 set -eu
 
 top=$(dirname -- "$(dirname -- "$(readlink -f -- "${BASH_SOURCE[0]}")")")
@@ -105,15 +105,6 @@ if asked keys; then
     done
 fi
 
-# Eight frames that want one mask which takes about 0.1 s: by one renderer, and by four and eight, of which one makes it and the others
-# wait. What they cost more on the processors is their waiting
-if asked waiting; then
-    page '{\an5\pos(960,540)\bord120\blur60}slow' > slow.ass
-    for renderers in 1 4 8; do
-        measure "one slow mask, 8 frames of 1920x1080, $renderers renderers" 8 \
-            "$program" play --mode settled --from 5000 --to 5320 --step 40 --size 1920x1080 --renderers "$renderers" slow.ass "$font"
-    done
-fi
 if asked selftest; then
     for workers in 1 4; do
         measure "selftest of 20,000 events, $workers workers" 0 "$program" selftest --workers "$workers" 7 20000
